@@ -1,14 +1,11 @@
 -- Evaluation of the bindings that a term becomes.
-use Rattle.std.proofs.Common.{◌≡◌, ℕ, suc, ◌+◌, ◌<◌, ◌≤◌, List, [], ◌∷◌, ◌++◌, map, length, refl, ap, subst as transport, arith}
+use Rattle.std.proofs.Common.{◌≡◌, ℕ, suc, ◌+◌, ◌<◌, ◌≤◌, List, [], ◌∷◌, ◌++◌, map, length, refl, subst as transport, arith}
+use Rattle.std.proofs.lemmas.List.{length-map}
 use Rattle.anf_convert.specs.Anf.{Atom, AnfOp, ConOp, AnfBlock, AnfProgram}
 use Rattle.anf_convert.specs.Captured.{Scope, Plain}
 use Rattle.anf_convert.specs.AnfEvaluation.{AnfVal, WCon, AnfVals, WCons, count, Gives, give_empty, AnfDoes, op_con, AnfGets, block_atom, block_op, block_let, block_bind}
 use Rattle.anf_convert.specs.ToAnf.{Level, LVar, AnfBinding, AtomIs, OpIs, Res, RAtom, RCon, ROp, NamedResult, at_depth, binding_of, tail_of, block_of, named}
 use Rattle.anf_convert.proofs.Levels.{Ext, ext_same, ext_push, ext_trans, AtLevel, l_word, l_empty, AllLevels, ls_none, ls_more, gives, gives_all, top_word}
-
-length_levels : (f : Level → Atom) (xs : List Level) → length (map f xs) ≡ length xs
-length_levels f [] = refl
-length_levels f (x ∷ xs) = ap suc (length_levels f xs)
 
 abbrev pub con_blocks : List Level → ℕ
 con_blocks [] = 0
@@ -58,7 +55,7 @@ module _ (Q : AnfProgram) (W : ℕ) where
   -- a constructor's block
   made : {s : Scope} {w : AnfVals} {c : ℕ} {x : Level} {xs : List Level} {us : AnfVals} {b l : ℕ} (d : ℕ) → d ≡ count w → AllLevels W s w (x ∷ xs) us b l → (0 < length (x ∷ xs) → length (x ∷ xs) < W) → AnfDoes Q W s w (ConOp c (map (at_depth d) (x ∷ xs))) (WCon c us) 0 0 (b +
       1) (l + suc (length (map (at_depth d) (x ∷ xs))))
-  made {x = x} {xs = xs} d eq all few = let long = length_levels (at_depth d) (x ∷ xs) in let narrow = few (omega arith) in op_con (gives_all d eq all) (omega arith)
+  made {x = x} {xs = xs} d eq all few = let long = length-map (x ∷ xs) (at_depth d) in let narrow = few (omega arith) in op_con (gives_all d eq all) (omega arith)
 
   -- a variable for a result
   pub record Bound (s : Scope) (w : AnfVals) (p : AnfBinding) (u : AnfVal) (c k b : ℕ) : Type 0 where

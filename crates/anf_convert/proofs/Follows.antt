@@ -8,14 +8,15 @@ use Rattle.pc_terms.specs.declared.leaf.FamilyId.{FamilyId}
 use Rattle.box_terms.specs.BoxSyntax.{BoxTerm, BoxTerms, Box, BLambda}
 use Rattle.lambda_box.specs.BoxProgram.{BoxConstant, BoxProgram, Has, here, there, KeepsBoxConstant}
 use Rattle.lambda_box.specs.ClosureEvaluation.{ClosureValue, VBox, VConstruct, VClosure, VFix, ClosureValues, Then, ClosureEnv, Bind, BindFix, size, bind_all, Holds, Defines, fix_words, Counts, nothing, block, constructor_block, ◌⊕◌, ClosureRun, run_box, run_value, run_definition, run_lambda, run_fix, run_constant, run_let, run_app, run_box_app, run_fix_app, run_fix_box, run_construct, run_match, run_only, RunArgs, run_head, run_arg}
-use Rattle.anf_convert.specs.Anf.{Atom, AnfOp, AppOp, AnfBlock, Bind, AnfProgram, def_count}
+use Rattle.lambda_box.proofs.ConstructorBlocks.{constructor_block_matches}
+use Rattle.anf_convert.specs.Anf.{Atom, AnfOp, AppOp, AnfBlock, Bind, AnfProgram}
 use Rattle.anf_convert.specs.Captured.{Scope, Outside, Plain, depth, plains, shares, fix_captured}
 use Rattle.anf_convert.specs.AnfEvaluation.{AnfVal, WBox, WCon, WClos, WFix, AnfVals, WNil, WCons, count, ◌+w◌, fixes, LamAt, lam_here, lam_after_lam, lam_after_box, BoxAt, box_here, box_after_lam, box_after_box, AnfBranchAt, at_branch, after_branch, Gives, AnfDoes, op_const, op_app, op_app_box, op_app_fix, op_app_fix_box, op_lam, op_fix, op_case, AnfGets, AnfAnswers, main_alone, main_applied}
 use Rattle.anf_convert.specs.AnfData.{DataTree, DataTrees, AnfIsData, anf_data, AnfAreData, anf_data_none, anf_data_more}
 use Rattle.anf_convert.specs.ToAnf.{Level, LVar, AnfBinding, OpIs, Res, RAtom, RCon, ROp, Norm, binding_of, sealed, with_variable, named, levels, call, name_at, then_arg, then_body, then_case, just, norm, norm_branches, norm_defs, code_of, number_in, to_anf}
-use Rattle.anf_convert.specs.ToAnfKeeps.{AreUnder, Ready, ReadyTerms, BoxAnswers, box_alone, box_applied, ValueIs, value_is, ValuesAre, no_values, and_value, ToAnfKeeps}
+use Rattle.anf_convert.specs.ToAnfKeeps.{Ready, ReadyTerms, BoxAnswers, box_alone, box_applied, ValueIs, value_is, ValuesAre, no_values, and_value, ToAnfKeeps}
 use Rattle.anf_convert.proofs.Levels.{Ext, ext_same, ext_push, ext_trans, top_word, VR, vr_box, vr_con, vr_clos, vr_fix, VRs, vrs_nil, vrs_cons, ER, er_empty, er_bind, er_fix, vrs_size, er_ext, HeldAt, holds_word, holds_fix, held_at, AtLevel, l_word, l_fix, l_box, AllLevels, ls_none, ls_more, level_ext, levels_ext, gives, levels_size, plains_size, er_args, fixes_size, fixes_ext, fixes_at}
-use Rattle.anf_convert.proofs.Widths.{lam_width, fix_width}
+use Rattle.anf_convert.proofs.Widths.{lam_width, fix_width, def_total}
 use Rattle.anf_convert.proofs.Bindings.{con_blocks, Binds, binds_none, Stands, st_atom, st_con, st_op, binds_ext, binds_size, binds_then, binds_block, bound, bound_op, name_done, ended}
 
 abbrev NotCon : AnfVal → Type 0
@@ -54,16 +55,6 @@ module _ (K : Name → ℕ) (env : List Level) (d n : ℕ) where
   box_at Done i m e = absurd (none_pair e)
   box_at (Next m' u rest) zero m e = transport (λ z. BoxAt (norm_defs K env d n (Next m' z rest)) zero) (sym (second e)) box_here
   box_at (Next m' u rest) (suc i) m e = box_after m' rest u (box_at rest i m e)
-
-  count_cons : (m : ℕ) (rest : BoxTerms) (t : BoxTerm) → def_count (norm_defs K env d n (Next m t rest)) ≡ suc (def_count (norm_defs K env d n rest))
-  count_cons m rest (BLambda t) = refl
-  count_cons m rest t = refl
-
-  count_is : (k : ℕ) (rs : List ℕ) (bodies : BoxTerms) → AreUnder k rs bodies → def_count (norm_defs K env d n bodies) ≡ length rs
-  count_is k [] Done under = refl
-  count_is k [] (Next m t rest) under = absurd under
-  count_is k (r ∷ rs) Done under = absurd under
-  count_is k (r ∷ rs) (Next m t rest) under = count_cons m rest t ∙ ap suc (count_is k rs rest under.1)
 
 branch_at : (K : Name → ℕ) (env : List Level) (d : ℕ) (bs : BoxTerms) (i n : ℕ) (t : BoxTerm) → term_at bs i ≡ Some (n, t) → AnfBranchAt (norm_branches K env d bs) i n (sealed (d + n) (norm K (levels d n env) (d + n) t))
 branch_at K env d Done i n t e = absurd (none_pair e)
@@ -281,7 +272,7 @@ module _ (P : BoxProgram) (K : Name → ℕ) (Q : AnfProgram) (W : ℕ) where
       let er2 = er_fix d eq under ok er refl (λ j lt. fixes_at s' w' ds cs d eq m j lt) (er_ext (fixes_ext s' w' ds cs m) er) in
       let x = next (ready_at P bodies i m (BLambda t) at ok).1.0 (LVar (d + m) ∷ levels d m env) (depth s2 ∷ ys) (Plain s2) (WCons h.x w2) (suc (d + m)) (ap suc deep) (er_bind h.is (top_word s2 w2 h.x (d + m) deep) (er_ext (ext_push ext_same) er2)) in
       let g = got (suc (d + m)) (ap suc deep) x in
-      let run = transport (λ z. AnfGets Q W (Plain (shares cs z s')) (WCons h.x (fixes s' w' ds z +w w')) (sealed (suc (d + m)) (norm K (LVar (d + m) ∷ levels d m env) (suc (d + m)) t)) g.u g.c' c3.matches c3.blocks g.l') (sym (count_is K env d m m rargs bodies under)) g.gets in
+      let run = transport (λ z. AnfGets Q W (Plain (shares cs z s')) (WCons h.x (fixes s' w' ds z +w w')) (sealed (suc (d + m)) (norm K (LVar (d + m) ∷ levels d m env) (suc (d + m)) t)) g.u g.c' c3.matches c3.blocks g.l') (sym (def_total K env d m m rargs bodies under)) g.gets in
       applied_done h (op_app_fix h.fun h.arg (lam_at K env d m bodies i m t at) run) g.is (omega (arith, g.le_c)) km (omega arith)
 
   app_fix_box : {s : Scope} {w : AnfVals} {n : Norm} {u : AnfVal} {e : ClosureEnv} {rargs : List ℕ} {i : ℕ} {bodies : BoxTerms} {v : ClosureValue} {c k b : ℕ} {c' : Counts} → VR P K (VFix e i rargs bodies) u → term_at bodies i ≡ Some (length rargs, Box) → Applied s w n u v c k b → suc (suc
@@ -394,14 +385,6 @@ module _ (P : BoxProgram) (K : Name → ℕ) (Q : AnfProgram) (W : ℕ) where
   con_made (x ∷ xs) zero eq = absurd (omega arith)
   con_made (x ∷ xs) (suc n) eq = refl
 
-  no_others : (n : ℕ) → (constructor_block n).contractions ≡ 0
-  no_others zero = refl
-  no_others (suc n) = refl
-
-  no_matches : (n : ℕ) → (constructor_block n).matches ≡ 0
-  no_matches zero = refl
-  no_matches (suc n) = refl
-
   con_done : {s : Scope} {w : AnfVals} {n : Norm} {f : FamilyId} {i : ℕ} {vs : ClosureValues} {c : Counts} (k : ℕ) → size vs ≡ k → (constructor_block k).greatest ≤ W → DoneArgs s w n i vs c → DoneTerm s w n (VConstruct f i vs) (c ⊕ constructor_block k)
   con_done {i = i} k sz le h =
       let long : length h.args ≡ k = levels_size h.all ∙ sym (vrs_size h.related) ∙ sz in
@@ -420,7 +403,7 @@ module _ (P : BoxProgram) (K : Name → ℕ) (Q : AnfProgram) (W : ℕ) where
         stands = transport (λ z. Stands Q W h.g h.f z (WCon i h.us) 0 0 (h.b2 + con_blocks h.args)) (sym h.res_is) (st_con h.all (con_few k (length h.args) long le));
         is = vr_con h.related;
         le_c = omega (arith, h.le_c);
-        matches = omega (arith, no_matches k);
+        matches = omega (arith, constructor_block_matches k);
         blocks = omega (arith, h.blocks, con_made h.args k long);
       }
 

@@ -1,11 +1,12 @@
 -- The program in A-normal form has its form.
 use Rattle.std.proofs.Common.{◌≡◌, ℕ, zero, suc, ◌+◌, ◌<◌, ◌≤◌, List, [], ◌∷◌, ◌++◌, map, length, length-append, Some, None, refl, sym, ap, ◌∙◌, subst as transport, arith}
+use Rattle.std.proofs.lemmas.List.{length-map}
 use Rattle.std.specs.Prelude.{slice_get}
 use Rattle.trees.specs.Tree.{Rel, Done, Next, number}
 use Rattle.pc_terms.specs.declared.leaf.Name.{Name}
 use Rattle.box_terms.specs.BoxSyntax.{BoxTerm, BoxTerms, Box, BLambda, BLetIn, BApp, BConst, BConstruct, BCase, BFix}
 use Rattle.lambda_box.specs.BoxProgram.{BoxConstant, Has, here, there}
-use Rattle.anf_convert.specs.Anf.{Atom, AnfOp, AppOp, AnfBlock}
+use Rattle.anf_convert.specs.Anf.{AnfOp, AppOp, AnfBlock}
 use Rattle.anf_convert.specs.AnfForm.{constructors, fields, branch_count, AtomFits, AtomsFit, AnfOpFits, AnfFits, AnfBranchesFit, DefsFit}
 use Rattle.anf_convert.specs.ToAnf.{Level, LVar, LBoxed, LEmpty, AnfBinding, AtomIs, OpIs, Res, RAtom, RCon, ROp, Norm, NamedResult, at_depth, binding_of, tail_of, block_of, sealed, with_variable, named, nth, levels, call, name_at, then_arg, then_body, norm, norm_branches, norm_defs, code_of, number_in, to_anf}
 use Rattle.anf_convert.specs.ToAnfKeeps.{AreUnder}
@@ -38,10 +39,6 @@ levels_up le (fits_more h hs) = fits_more (level_up le h) (levels_up le hs)
 atoms_fit : {d : ℕ} {as' : List Level} → LevelsFit d as' → AtomsFit d (map (at_depth d) as')
 atoms_fit fits_none = tt
 atoms_fit (fits_more h hs) = (atom_fits h, atoms_fit hs)
-
-length_levels : (f : Level → Atom) (xs : List Level) → length (map f xs) ≡ length xs
-length_levels f [] = refl
-length_levels f (x ∷ xs) = ap suc (length_levels f xs)
 
 -- the n variables of a term
 record EnvFits (d n : ℕ) (env : List Level) : Type 0 where
@@ -97,7 +94,7 @@ module _ (k m : ℕ) where
   binding_fits : {d : ℕ} {r : Res} → ResFits d r → BindingFits d (binding_of d r)
   binding_fits (res_atom h) = atom_fits h
   binding_fits (res_con lt few fits_none) = lt
-  binding_fits {d} (res_con lt few (fits_more {a = a} {as' = as'} h hs)) = let long = length_levels (at_depth d) (a ∷ as') in (lt, omega arith, omega arith, atoms_fit (fits_more h hs))
+  binding_fits {d} (res_con lt few (fits_more {a = a} {as' = as'} h hs)) = let long = length-map (a ∷ as') (at_depth d) in (lt, omega arith, omega arith, atoms_fit (fits_more h hs))
   binding_fits (res_op h) = h
 
   tail_fits : (d : ℕ) (p : AnfBinding) → BindingFits d p → AnfFits k m d (tail_of p)

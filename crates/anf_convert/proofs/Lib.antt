@@ -7,7 +7,6 @@ pub mod Follows
 pub mod Forms
 pub mod Preorder
 pub mod BoxForms
-pub mod Maps
 pub mod ViewLists
 pub mod LevelLists
 pub mod Steps

@@ -35,9 +35,6 @@ args_depth (BConstruct f c) = omega arith
 args_depth (BCase f s bs) = omega arith
 args_depth (BFix i rargs bodies) = omega arith
 
-no_branch : {n : ℕ} {b : BoxTerm} {bs : BoxTerms} → Next n b bs ≡ Done → ⊥
-no_branch e = cc
-
 module _ (P : BoxProgram) (form : IsBoxProgram P) where
   -- what is known of a family that is kept
   ordinary_family : (f : FamilyId) (F : BoxFamily) → KeepsBoxFamily P f F → F.propositional ≡ true → propositional_of (family_of P.families f) ≡ true
@@ -57,7 +54,7 @@ module _ (P : BoxProgram) (form : IsBoxProgram P) where
     prepared (BConstruct f c) h le = (tt, tt)
     prepared (BCase f s Done) h le = (tt, (prepared s h.1 (omega arith), (tt, tt)))
     prepared (BCase f s (Next n b bs)) h le =
-        ((λ F kept prop. no_branch (h.0 (ordinary_family f F kept prop))), (prepared s h.1 (omega arith), (prepared_all (Next n b bs) h.2 (omega arith), tt)))
+        ((λ F kept prop. let e : Next n b bs ≡ Done = h.0 (ordinary_family f F kept prop) in absurd (cc)), (prepared s h.1 (omega arith), (prepared_all (Next n b bs) h.2 (omega arith), tt)))
     prepared (BFix i rargs bodies) h le = (tt, (prepared_all bodies h (omega arith), tt))
 
     prepared_all : (ts : BoxTerms) → AreOrdinary P.families ts → depth_trees ts ≤ 2048 → PreparedTerms P ts
@@ -69,17 +66,22 @@ shallow_at [] h c m = elim m [ ]
 shallow_at (d ∷ cs) h c here = h.0
 shallow_at (d ∷ cs) h c (there m) = shallow_at cs h.1 c m
 
-suffices : (P : BoxProgram) → IsBoxProgram P → IsOrdinaryProgram P → AreShallow P.constants → depth P.main ≤ 2048 → (m : ℕ) → ConstructorsWithin P m → CanBeConverted P × ProgramFits P m
-suffices P form ordinary shallow main m few =
+pub all_shallow : (cs : List BoxConstant) → ((d : BoxConstant) → Has cs d → depth d.body ≤ 2048) → AreShallow cs
+all_shallow [] h = tt
+all_shallow (c ∷ cs) h = (h c here, all_shallow cs (λ d m. h d (there m)))
+
+-- a program of the form, within the depth limit and of ordinary matches, is one that can be converted
+pub shallow_suffices : (P : BoxProgram) → IsBoxProgram P → IsOrdinaryProgram P → AreShallow P.constants → depth P.main ≤ 2048 → (m : ℕ) → ConstructorsWithin P m → CanBeConverted P × ProgramFits P m
+shallow_suffices P form ordinary shallow main m few =
     form_suffices P m form (λ d h. prepared P form d.body (ordinary.constants d h) (shallow_at P.constants shallow d h)) (prepared P form P.main ordinary.main main) few
 
 module _ (P : BoxProgram) (Q : AnfProgram) (is : Q ≡ to_anf P) (shallow : AreShallow P.constants) (main : depth P.main ≤ 2048) where
   pub data_kept : ToAnfKeepsData P Q
   data_kept form ordinary =
-      ((suffices P form ordinary shallow main 1024 (λ F h. (form.counts F h).constructors)).0, subst (KeepsAnswers P) (sym is) (to_anf_keeps P))
+      ((shallow_suffices P form ordinary shallow main 1024 (λ F h. (form.counts F h).constructors)).0, subst (KeepsAnswers P) (sym is) (to_anf_keeps P))
 
   pub form_kept : HasAnfForm P Q
-  form_kept form ordinary m few = subst (λ Q. AnfFormed Q m) (sym is) (to_anf_forms P m (suffices P form ordinary shallow main m few).1)
+  form_kept form ordinary m few = subst (λ Q. AnfFormed Q m) (sym is) (to_anf_forms P m (shallow_suffices P form ordinary shallow main m few).1)
 
 -- more constants, and constants in another order
 pub shallow_more : (cs : List BoxConstant) (d : BoxConstant) → AreShallow cs → depth d.body ≤ 2048 → AreShallow (cs ++ (d ∷ []))

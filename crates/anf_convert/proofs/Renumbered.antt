@@ -1,5 +1,6 @@
 -- Translation and then other numbers for constants is translation by those numbers.
 use Rattle.std.proofs.Common.{◌≡◌, ℕ, suc, ◌+◌, nat_eq, if◌then◌else◌, List, [], ◌∷◌, ◌++◌, length, map, refl, sym, ap, ◌∙◌}
+use Rattle.std.proofs.lemmas.List.{length-map, map-append}
 use Rattle.trees.specs.Tree.{Rel, Done, Next}
 use Rattle.pc_terms.specs.declared.leaf.Name.{Name}
 use Rattle.box_terms.specs.BoxSyntax.{BoxTerm, BoxTerms, Box, BLambda, BLetIn, BApp, BConst, BConstruct, BCase, BFix}
@@ -10,11 +11,6 @@ use Rattle.anf_convert.specs.Renumbering.{renumber, renumber_op, renumber_branch
 use Rattle.anf_convert.specs.Writing.{number_of}
 use Rattle.anf_convert.specs.NamedProgram.{named_constant, named_anf}
 use Rattle.anf_convert.specs.declared.program.AnfConstant.{AnfConstant}
-use Rattle.anf_convert.proofs.Maps.{map_more}
-
-map_length : {A B : Type 0} (f : A → B) (xs : List A) → length (map f xs) ≡ length xs
-map_length f [] = refl
-map_length f (x ∷ xs) = ap suc (map_length f xs)
 
 module _ (number : ℕ → ℕ) where
   -- parts of blocks with the other numbers
@@ -50,16 +46,16 @@ module _ (number : ℕ → ℕ) where
 
   sealed' : (d : ℕ) (n : Norm) → sealed d (norm' n) ≡ renumber number (sealed d n)
   sealed' d n =
-      ap (λ k. block_of (map binding' n.ops) (tail_of (binding_of (d + k) (res' n.res)))) (map_length binding' n.ops)
+      ap (λ k. block_of (map binding' n.ops) (tail_of (binding_of (d + k) (res' n.res)))) (length-map n.ops binding')
       ∙ ap (λ p. block_of (map binding' n.ops) (tail_of p)) (binding_of' (d + length n.ops) n.res)
       ∙ ap (block_of (map binding' n.ops)) (tail' (binding_of (d + length n.ops) n.res))
       ∙ block' n.ops (tail_of (binding_of (d + length n.ops) n.res))
 
   with_variable' : (d : ℕ) (ops : List AnfBinding) (r : Res) → with_variable d (map binding' ops) (res' r) ≡ named' (with_variable d ops r)
   with_variable' d ops r =
-      ap (λ k. record { ops = map binding' ops ++ binding_of (d + k) (res' r) ∷ []; atom = LVar (d + k) }) (map_length binding' ops)
+      ap (λ k. record { ops = map binding' ops ++ binding_of (d + k) (res' r) ∷ []; atom = LVar (d + k) }) (length-map ops binding')
       ∙ ap (λ p. record { ops = map binding' ops ++ p ∷ []; atom = LVar (d + length ops) }) (binding_of' (d + length ops) r)
-      ∙ ap (λ ps. record { ops = ps; atom = LVar (d + length ops) }) (sym (map_more binding' ops (binding_of (d + length ops) r ∷ [])))
+      ∙ ap (λ ps. record { ops = ps; atom = LVar (d + length ops) }) (sym (map-append binding' ops (binding_of (d + length ops) r ∷ [])))
 
   named_as' : (d : ℕ) (ops : List AnfBinding) (r : Res) → named d (map binding' ops) (res' r) ≡ named' (named d ops r)
   named_as' d ops (RAtom a) = refl
@@ -72,9 +68,9 @@ module _ (number : ℕ → ℕ) where
 
   call' : (d : ℕ) (ops : List AnfBinding) (f : Level) (a : NamedResult) → call d (map binding' ops) f (named' a) ≡ norm' (call d ops f a)
   call' d ops f a =
-      ap (λ k. record { ops = map binding' ops ++ map binding' a.ops; res = ROp (apply_at (d + k + length (map binding' a.ops)) f a.atom) }) (map_length binding' ops)
-      ∙ ap (λ j. record { ops = map binding' ops ++ map binding' a.ops; res = ROp (apply_at (d + length ops + j) f a.atom) }) (map_length binding' a.ops)
-      ∙ ap (λ ps. record { ops = ps; res = ROp (apply_at (d + length ops + length a.ops) f a.atom) }) (sym (map_more binding' ops a.ops))
+      ap (λ k. record { ops = map binding' ops ++ map binding' a.ops; res = ROp (apply_at (d + k + length (map binding' a.ops)) f a.atom) }) (length-map ops binding')
+      ∙ ap (λ j. record { ops = map binding' ops ++ map binding' a.ops; res = ROp (apply_at (d + length ops + j) f a.atom) }) (length-map a.ops binding')
+      ∙ ap (λ ps. record { ops = ps; res = ROp (apply_at (d + length ops + length a.ops) f a.atom) }) (sym (map-append binding' ops a.ops))
 
   name_at' : (arg : ℕ → Norm) (d : ℕ) → name_at (λ k. norm' (arg k)) d ≡ named' (name_at arg d)
   name_at' arg d = named_as' d (arg d).ops (arg d).res
@@ -82,29 +78,29 @@ module _ (number : ℕ → ℕ) where
   then_arg' : (d : ℕ) (ops : List AnfBinding) (r : Res) (arg : ℕ → Norm) → then_arg d (map binding' ops) (res' r) (λ k. norm' (arg k)) ≡ norm' (then_arg d ops r arg)
   then_arg' d ops (RCon c xs) arg =
       let joined : NamedResult → Norm = λ n. record { ops = map binding' ops ++ n.ops; res = RCon c (n.atom ∷ xs) } in
-      ap (λ k. joined (name_at (λ j. norm' (arg j)) (d + k))) (map_length binding' ops)
+      ap (λ k. joined (name_at (λ j. norm' (arg j)) (d + k))) (length-map ops binding')
       ∙ ap joined (name_at' arg (d + length ops))
-      ∙ ap (λ ps. record { ops = ps; res = RCon c ((name_at arg (d + length ops)).atom ∷ xs) }) (sym (map_more binding' ops (name_at arg (d + length ops)).ops))
+      ∙ ap (λ ps. record { ops = ps; res = RCon c ((name_at arg (d + length ops)).atom ∷ xs) }) (sym (map-append binding' ops (name_at arg (d + length ops)).ops))
   then_arg' d ops (RAtom f) arg =
-      ap (λ k. call d (map binding' ops) f (name_at (λ j. norm' (arg j)) (d + k))) (map_length binding' ops)
+      ap (λ k. call d (map binding' ops) f (name_at (λ j. norm' (arg j)) (d + k))) (length-map ops binding')
       ∙ ap (call d (map binding' ops) f) (name_at' arg (d + length ops))
       ∙ call' d ops f (name_at arg (d + length ops))
   then_arg' d ops (ROp op) arg =
       let more = ops ++ OpIs op ∷ [] in
-      ap (λ ps. call d ps (LVar (d + length (map binding' ops))) (name_at (λ j. norm' (arg j)) (d + length ps))) (sym (map_more binding' ops (OpIs op ∷ [])))
-      ∙ ap (λ k. call d (map binding' more) (LVar (d + k)) (name_at (λ j. norm' (arg j)) (d + length (map binding' more)))) (map_length binding' ops)
-      ∙ ap (λ k. call d (map binding' more) (LVar (d + length ops)) (name_at (λ j. norm' (arg j)) (d + k))) (map_length binding' more)
+      ap (λ ps. call d ps (LVar (d + length (map binding' ops))) (name_at (λ j. norm' (arg j)) (d + length ps))) (sym (map-append binding' ops (OpIs op ∷ [])))
+      ∙ ap (λ k. call d (map binding' more) (LVar (d + k)) (name_at (λ j. norm' (arg j)) (d + length (map binding' more)))) (length-map ops binding')
+      ∙ ap (λ k. call d (map binding' more) (LVar (d + length ops)) (name_at (λ j. norm' (arg j)) (d + k))) (length-map more binding')
       ∙ ap (call d (map binding' more) (LVar (d + length ops))) (name_at' arg (d + length more))
       ∙ call' d more (LVar (d + length ops)) (name_at arg (d + length more))
 
   then_body' : (d : ℕ) (a : NamedResult) (body : ℕ → Level → Norm) → then_body d (named' a) (λ k x. norm' (body k x)) ≡ norm' (then_body d a body)
   then_body' d a body =
-      ap (λ k. record { ops = map binding' a.ops ++ map binding' (body (d + k) a.atom).ops; res = res' (body (d + k) a.atom).res }) (map_length binding' a.ops)
-      ∙ ap (λ ps. record { ops = ps; res = res' (body (d + length a.ops) a.atom).res }) (sym (map_more binding' a.ops (body (d + length a.ops) a.atom).ops))
+      ap (λ k. record { ops = map binding' a.ops ++ map binding' (body (d + k) a.atom).ops; res = res' (body (d + k) a.atom).res }) (length-map a.ops binding')
+      ∙ ap (λ ps. record { ops = ps; res = res' (body (d + length a.ops) a.atom).res }) (sym (map-append binding' a.ops (body (d + length a.ops) a.atom).ops))
 
   then_case' : (d : ℕ) (a : NamedResult) (branches : ℕ → AnfBranches) → then_case d (named' a) (λ k. renumber_branches number (branches k)) ≡ norm' (then_case d a branches)
   then_case' d a branches =
-      ap (λ k. record { ops = map binding' a.ops; res = ROp (CaseOp (at_depth (d + k) a.atom) (renumber_branches number (branches (d + k)))) }) (map_length binding' a.ops)
+      ap (λ k. record { ops = map binding' a.ops; res = ROp (CaseOp (at_depth (d + k) a.atom) (renumber_branches number (branches (d + k)))) }) (length-map a.ops binding')
 
   module _ (constant : Name → ℕ) where
     mutual

@@ -6,6 +6,7 @@ use Rattle.box_terms.specs.BoxSyntax.{BoxTerm, BoxTerms, Box, BLambda, BLetIn, B
 use Rattle.box_terms.specs.BoxLists.{arms_of, bodies_of, rargs_of}
 use Rattle.box_terms.specs.declared.term.BoxBranch.{BoxBranch}
 use Rattle.box_terms.specs.declared.term.BoxDef.{BoxDef}
+use Rattle.box_terms.proofs.Parts.{rargs_length}
 use Rattle.anf_convert.specs.Anf.{FixOp, Branch, AnfDefs, LamDef, BoxDef as boxed}
 use Rattle.anf_convert.specs.AnfView.{branches_of, defs_of}
 use Rattle.anf_convert.specs.declared.program.AnfDef.{AnfDef}
@@ -42,10 +43,6 @@ module _ (env : List Level) (b b1 b2 : Builder) where
     argument_written h = rw (h, w, e, named_split b.depth (N env b.depth t).ops (N env b.depth t).res) (written_twice b (N env b.depth t).ops _)
 
 -- the definitions of a fixpoint
-rargs_length : (ds : List BoxDef) → length (rargs_of ds) ≡ length ds
-rargs_length [] = refl
-rargs_length (d ∷ ds) = ap suc (rargs_length ds)
-
 pub fix_res : (env : List Level) (d i : ℕ) (ds : List BoxDef) (xs : AnfDefs) → xs ≡ norm_defs number_of env d (length ds) (bodies_of (length ds) ds) → ROp (FixOp xs i) ≡ (N env d (BFix i (rargs_of ds) (bodies_of (length ds) ds))).res
 fix_res env d i ds xs e = ap (λ xs. ROp (FixOp xs i)) (e ∙ ap (λ n. norm_defs number_of env d n (bodies_of (length ds) ds)) (sym (rargs_length ds)))
 

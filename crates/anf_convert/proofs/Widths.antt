@@ -1,6 +1,6 @@
 -- No closure of the program in A-normal form is wider.
 use Rattle.std.proofs.Common.{◌≡◌, ℕ, zero, suc, ◌+◌, ◌-◌, ◌<◌, ◌≤◌, List, [], ◌∷◌, ◌++◌, map, length, Bool, true, false, refl, sym, ap, ◌∙◌, subst as transport, ⊎_elim, arith}
-use Rattle.std.proofs.lemmas.Bool.{eq-eqb, eqb-true, eqb-false, cases_lt}
+use Rattle.std.proofs.lemmas.Bool.{eq-eqb, eqb-true, eqb-false, cases_lt, and_from, or_left, or_right}
 use Rattle.std.specs.Prelude.{nat_eq, nat_lt, ◌||◌, ◌&&◌, if◌then◌else◌}
 use Rattle.trees.specs.Tree.{Rel, Done, Next}
 use Rattle.pc_terms.specs.declared.leaf.Name.{Name}
@@ -14,16 +14,6 @@ use Rattle.anf_convert.proofs.Scopes.{Each, each_join, each_map, captured_each}
 use Rattle.anf_convert.specs.ToAnf.{Level, LVar, LBoxed, LEmpty, AnfBinding, AtomIs, OpIs, Res, RAtom, RCon, ROp, Norm, NamedResult, at_depth, binding_of, tail_of, block_of, sealed, with_variable, named, nth, levels, call, name_at, then_arg, then_body, then_case, norm, norm_branches, norm_defs}
 use Rattle.anf_convert.specs.ToAnfKeeps.{AreUnder, Ready, ReadyTerms}
 use Rattle.anf_convert.proofs.Levels.{ER, er_empty, er_bind, er_fix, nth_levels, nth_past}
-
-or_left : {a : Bool} (b : Bool) → a ≡ true → (a || b) ≡ true
-or_left b h = rw h refl
-
-or_right : (a : Bool) {b : Bool} → b ≡ true → (a || b) ≡ true
-or_right true h = refl
-or_right false h = h
-
-both : {a b : Bool} → a ≡ true → b ≡ true → (a && b) ≡ true
-both h g = rw (h, g) refl
 
 abbrev binding_words : Scope → AnfBinding → List ℕ
 binding_words s (AtomIs a) = atom_words s a
@@ -271,42 +261,42 @@ module _ (P : BoxProgram) (K : Name → ℕ) (Q : ℕ → Type 0) (k0 : ℕ) (hi
     norm_fine D (Rel i) ok env low = record { S' = _; D' = D; ops = ops_none; res = res_atom (env.at i (eq-eqb i i refl)) }
     norm_fine D Box ok env low = record { S' = _; D' = D; ops = ops_none; res = res_atom fine_box }
     norm_fine {S} D (BLambda b) ok env low =
-        record { S' = S; D' = D; ops = ops_none; res = res_op (seal_fine (suc D) (norm_fine (suc D) b ok.1.0 (env_push Q k0 high (names b) D refl low (env_sub (λ i is. or_left false (name_under_one b i is)) env)) (omega arith))) }
+        record { S' = S; D' = D; ops = ops_none; res = res_op (seal_fine (suc D) (norm_fine (suc D) b ok.1.0 (env_push Q k0 high (names b) D refl low (env_sub (λ i is. or_left _ false (name_under_one b i is)) env)) (omega arith))) }
     norm_fine {env = vars} D (BLetIn a b) ok env low =
-        let x = norm_fine D a ok.1.0 (env_sub (λ i is. or_left (names b (1 + i) || false) (name_at_zero a i is)) env) low in
+        let x = norm_fine D a ok.1.0 (env_sub (λ i is. or_left _ (names b (1 + i) || false) (name_at_zero a i is)) env) low in
         let m = with_fine Q k0 high (low_ext Q k0 high low (ops_ext x.ops)) x.ops x.res in
-        body_fine Q k0 high (λ d' l. norm K (l ∷ vars) d' b) D m (λ d eq. norm_fine d b ok.1.1.0 (env_let (names b) d eq m.at (env_ext (ops_ext m.ops) (env_sub (λ i is. or_right (names a (0 + i)) (or_left false (name_under_one b i is))) env))) (low_ext Q k0 high low (ops_ext m.ops)))
+        body_fine Q k0 high (λ d' l. norm K (l ∷ vars) d' b) D m (λ d eq. norm_fine d b ok.1.1.0 (env_let (names b) d eq m.at (env_ext (ops_ext m.ops) (env_sub (λ i is. or_right (names a (0 + i)) _ (or_left _ false (name_under_one b i is))) env))) (low_ext Q k0 high low (ops_ext m.ops)))
     norm_fine {env = vars} D (BApp f a) ok env low =
-        let x = norm_fine D f ok.1.0 (env_sub (λ i is. or_left (names a (0 + i) || false) (name_at_zero f i is)) env) low in
-        arg_fine Q k0 high (λ d'. norm K vars d' a) (low_ext Q k0 high low (ops_ext x.ops)) x.ops x.res (λ S' D' d ext eq. norm_fine d a ok.1.1.0 (env_as eq (env_ext ext (env_sub (λ i is. or_right (names f (0 + i)) (or_left false (name_at_zero a i is))) env))) (low_ext Q k0 high low ext))
+        let x = norm_fine D f ok.1.0 (env_sub (λ i is. or_left _ (names a (0 + i) || false) (name_at_zero f i is)) env) low in
+        arg_fine Q k0 high (λ d'. norm K vars d' a) (low_ext Q k0 high low (ops_ext x.ops)) x.ops x.res (λ S' D' d ext eq. norm_fine d a ok.1.1.0 (env_as eq (env_ext ext (env_sub (λ i is. or_right (names f (0 + i)) _ (or_left _ false (name_at_zero a i is))) env))) (low_ext Q k0 high low ext))
     norm_fine D (BConst k) ok env low = record { S' = _; D' = D; ops = ops_none; res = res_op tt }
     norm_fine D (BConstruct f c) ok env low = record { S' = _; D' = D; ops = ops_none; res = res_con fine_none }
     norm_fine {env = vars} D (BCase f t bs) ok env low =
-        let x = norm_fine D t ok.1.0 (env_sub (λ i is. or_left (names_terms bs i || false) (name_at_zero t i is)) env) low in
+        let x = norm_fine D t ok.1.0 (env_sub (λ i is. or_left _ (names_terms bs i || false) (name_at_zero t i is)) env) low in
         let m = name_fine Q k0 high (low_ext Q k0 high low (ops_ext x.ops)) x.ops x.res in
-        case_fine Q k0 high (λ d'. norm_branches K vars d' bs) D m (λ d eq. branches_fine d bs ok.1.1.0 (env_as eq (env_ext (ops_ext m.ops) (env_sub (λ i is. or_right (names t (0 + i)) (or_left false is)) env))) (low_ext Q k0 high low (ops_ext m.ops)))
+        case_fine Q k0 high (λ d'. norm_branches K vars d' bs) D m (λ d eq. branches_fine d bs ok.1.1.0 (env_as eq (env_ext (ops_ext m.ops) (env_sub (λ i is. or_right (names t (0 + i)) _ (or_left _ false is)) env))) (low_ext Q k0 high low (ops_ext m.ops)))
     norm_fine {S} {env = vars} D (BFix i rargs bodies) ok env low =
         let n = length rargs in
-        let all = defs_fine D n rargs bodies ok.0 ok.1.0 (env_sub (λ j js. or_left false js) env) low in
+        let all = defs_fine D n rargs bodies ok.0 ok.1.0 (env_sub (λ j js. or_left _ false js) env) low in
         record { S' = S; D' = D; ops = ops_none; res = res_op (transport (λ z. Each Q (defs_words (shares [] z S) (norm_defs K vars D n bodies))) (sym (def_total K vars D n n rargs bodies ok.0)) all) }
 
     branches_fine : {S : Scope} {env : List Level} (D : ℕ) (bs : BoxTerms) → ReadyTerms P bs → EnvFine Q S D env (names_terms bs) → k0 ≤ depth S → Each Q (branches_words S (norm_branches K env D bs))
     branches_fine D Done ok env low = tt
     branches_fine {S} {env = vars} D (Next n t rest) ok env low =
         each_join Q (block_words (plains n S) (sealed (D + n) (norm K (levels D n vars) (D + n) t))) _
-        (seal_fine (D + n) (norm_fine (D + n) t ok.0 (env_plains Q k0 high (names t) D n (D + n) refl low (env_sub (λ i is. or_left (names_terms rest i) is) env)) (plains_low Q k0 high n S low)))
-        (branches_fine D rest ok.1 (env_sub (λ i is. or_right (names t (n + i)) is) env) low)
+        (seal_fine (D + n) (norm_fine (D + n) t ok.0 (env_plains Q k0 high (names t) D n (D + n) refl low (env_sub (λ i is. or_left _ (names_terms rest i) is) env)) (plains_low Q k0 high n S low)))
+        (branches_fine D rest ok.1 (env_sub (λ i is. or_right (names t (n + i)) _ is) env) low)
 
     defs_fine : {S : Scope} {env : List Level} (D n : ℕ) (rs : List ℕ) (bodies : BoxTerms) → AreUnder n rs bodies → ReadyTerms P bodies → EnvFine Q S D env (names_terms bodies) → k0 ≤ depth S → Each Q (defs_words (shares [] n S) (norm_defs K env D n bodies))
     defs_fine D n [] Done under ok env low = tt
     defs_fine D n [] (Next m b rest) under ok env low = absurd under
     defs_fine D n (r ∷ rs) Done under ok env low = absurd under
     defs_fine {S} {env = vars} D n (r ∷ rs) (Next m (BLambda b) rest) under ok env low =
-        let inner = env_sub {M = λ i. names b (suc (n + i))} (λ i is. or_left (names_terms rest i) (or_left false (let z : 1 + (m + i) ≡ suc (n + i) = omega (arith, under.0) in ap (names b) z ∙ is))) env in
+        let inner = env_sub {M = λ i. names b (suc (n + i))} (λ i is. or_left _ (names_terms rest i) (or_left _ false (let z : 1 + (m + i) ≡ suc (n + i) = omega (arith, under.0) in ap (names b) z ∙ is))) env in
         each_join Q (block_words (Plain (shares [] n S)) (sealed (suc (D + n)) (norm K (LVar (D + n) ∷ levels D n vars) (suc (D + n)) b))) _
         (seal_fine (suc (D + n)) (norm_fine (suc (D + n)) b ok.0.1.0 (env_push Q k0 high (names b) (D + n) refl (shares_low Q k0 high n S low) (env_shares (λ i. names b (suc i)) D n (D + n) refl inner)) (omega (arith, shares_low Q k0 high n S low))))
-        (defs_fine D n rs rest under.1 ok.1 (env_sub (λ i is. or_right (names (BLambda b) (m + i)) is) env) low)
-    defs_fine {S} {env = vars} D n (r ∷ rs) (Next m b rest) under ok env low = defs_fine D n rs rest under.1 ok.1 (env_sub (λ i is. or_right (names b (m + i)) is) env) low
+        (defs_fine D n rs rest under.1 ok.1 (env_sub (λ i is. or_right (names (BLambda b) (m + i)) _ is) env) low)
+    defs_fine {S} {env = vars} D n (r ∷ rs) (Next m b rest) under ok env low = defs_fine D n rs rest under.1 ok.1 (env_sub (λ i is. or_right (names b (m + i)) _ is) env) low
 
 -- the word is one of a set of variables; `ys` has the words of the variables that aren't a fixpoint's
 data InWords : ClosureEnv → (ℕ → Bool) → List ℕ → ℕ → Type 0 where
@@ -318,8 +308,8 @@ any_true : (n i : ℕ) (N : ℕ → Bool) → i < n → N i ≡ true → any_bel
 any_true zero i N lt h = absurd (omega arith)
 any_true (suc n) i N lt h =
     ⊎_elim
-    (λ below. or_right (N n) (any_true n i N below h))
-    (λ above. let same : n ≡ i = omega arith in or_left (any_below n N) (ap N same ∙ h))
+    (λ below. or_right (N n) _ (any_true n i N below h))
+    (λ above. let same : n ≡ i = omega arith in or_left _ (any_below n N) (ap N same ∙ h))
     (cases_lt i n)
 
 fine_words : {Q : ℕ → Type 0} {s : Scope} {d x : ℕ} (ws : List ℕ) (i : ℕ) → x < d → i ≡ d - suc x → entry s i ≡ Words ws → Each Q ws → Fine Q s d (LVar x)
@@ -338,7 +328,7 @@ fix_words_in : (P : BoxProgram) (K : Name → ℕ) {e : ClosureEnv} (env : List 
 fix_words_in P K {e} env {ys} {s} rargs bodies d N under ok any inner =
     let n = length rargs in
     let ds = norm_defs K env d n bodies in
-    let vars : EnvFine (λ z. z < depth s → InWords (BindFix rargs bodies e) N ys z) s d env (names_terms bodies) = record { at = λ k ks. fine_map (λ z q lt. in_fix q) (inner k (or_right (N (length rargs + k)) (both any ks))) } in
+    let vars : EnvFine (λ z. z < depth s → InWords (BindFix rargs bodies e) N ys z) s d env (names_terms bodies) = record { at = λ k ks. fine_map (λ z q lt. in_fix q) (inner k (or_right (N (length rargs + k)) _ (and_from _ _ any ks))) } in
     let all = defs_fine P K (λ z. z < depth s → InWords (BindFix rargs bodies e) N ys z) (depth s) (λ y le lt. absurd (omega arith)) d n rargs bodies under ok vars (omega arith) in
     captured_each (λ z. InWords (BindFix rargs bodies e) N ys z) (depth s) (defs_words (shares [] (def_count ds) s) ds)
     (transport (λ m. Each (λ z. z < depth s → InWords (BindFix rargs bodies e) N ys z) (defs_words (shares [] m s) ds)) (sym (def_total K env d n n rargs bodies under)) all)
@@ -365,7 +355,7 @@ in_words {P} {K} {s = s} {w = w} d N i eq (er_fix {rargs = rargs} {bodies = bodi
         let j = i - length rargs in
         let same : length rargs + j ≡ i = omega arith in
         transport (λ z. Fine (λ y. InWords (BindFix rargs bodies e) N ys y) s d z) (sym (nth_past d0 (length rargs) i j env (omega arith)))
-        (fine_map (λ z q. in_fix q) (rec j (or_left (any_below (length rargs) N && names_terms bodies j) (ap N same ∙ is))))
+        (fine_map (λ z q. in_fix q) (rec j (or_left _ (any_below (length rargs) N && names_terms bodies j) (ap N same ∙ is))))
 
 -- a list of distinct words
 data Distinct : List ℕ → Type 0 where

@@ -76,7 +76,7 @@ pub(crate) struct Builder {
 }
 
 /// The atoms of these levels under `depth` variables. Only `Memory`.
-#[tactic(auto, using(crate::proofs::Maps::reverse_map, std::proofs::lemmas::Grind::common_steps))]
+#[tactic(auto, using(box_terms::proofs::Items::reverse_map, std::proofs::lemmas::Grind::common_steps))]
 fn atoms(alloc: Global, levels: &[Level], depth: u32) -> Result<Atoms, PassFault>
     ensures ok { IfOk result (λ xs. xs ≡ map (at_depth depth) (reverse levels.now)) }
     ensures only_memory { IfErr result (λ e. e ≡ Memory) }

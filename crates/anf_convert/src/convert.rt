@@ -44,7 +44,7 @@ pub fn to_anf(alloc: Global, p: &BoxProgram) -> Result<AnfProgram, PassFault>
 }
 
 /// The constants in A-normal form, in the same order. `Memory` as with `to_anf`.
-#[tactic(auto, using(crate::proofs::Maps::reverse_map, crate::proofs::Prepared::shallow_laws, std::proofs::lemmas::Grind::common_steps))]
+#[tactic(auto, using(box_terms::proofs::Items::reverse_map, crate::proofs::Prepared::shallow_laws, std::proofs::lemmas::Grind::common_steps))]
 fn constants(alloc: Global, cs: &BoxConstants) -> Result<AnfConstants, PassFault>
     ensures ok { IfOk result (λ xs. xs ≡ map named_constant cs.now) }
     ensures shallow { IfOk result (λ _. AreShallow cs.now) }

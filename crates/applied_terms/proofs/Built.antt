@@ -5,7 +5,7 @@ use Rattle.pc_terms.specs.declared.leaf.FamilyId.{FamilyId}
 use Rattle.box_terms.specs.BoxSyntax.{BoxTerm, BoxTerms, Box, BLambda, BApp, BConstruct, BFix}
 use Rattle.lambda_box.specs.BoxProgram.{BoxFamily, BoxProgram, KeepsBoxFamily, box_apply}
 use Rattle.lambda_box.specs.BoxEvaluation.{BoxEvaluates, value, constant, let_in, beta, box_app, extend, unfold_fix, enter, enter_only, BoxUnfolds, unfolds}
-use Rattle.lambda_box.proofs.Spines.{head_of, head_apply, fix_head}
+use Rattle.lambda_box.proofs.Spines.{head_of, head_apply, fix_head, construct_not_fix}
 
 -- the term is constructor c of the family, applied to n terms
 pub data Built (f : FamilyId) (c : ℕ) : ℕ → BoxTerm → Type 0 where
@@ -63,9 +63,6 @@ pub record SameBuilt (f g : FamilyId) (c d n m : ℕ) : Type 0 where
 pub built_same : {f g : FamilyId} {c d n m : ℕ} {t : BoxTerm} → Built f c n t → Built g d m t → SameBuilt f g c d n m
 built_same built_head built_head = record { family = refl; ctor = refl; number = refl }
 built_same (built_more b) (built_more b') = let r = built_same b b' in record { family = r.family; ctor = r.ctor; number = ap suc r.number }
-
-construct_not_fix : {f : FamilyId} {c i : ℕ} {rargs : List ℕ} {bodies : BoxTerms} → BConstruct f c ≡ BFix i rargs bodies → ⊥
-construct_not_fix e = cc
 
 -- so it is with its value, and it is neither box, nor a lambda, nor a fixpoint
 

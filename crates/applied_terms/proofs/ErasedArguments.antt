@@ -15,7 +15,7 @@ use Rattle.lambda_box.specs.BoxProgram.{BoxProgram, NamesOnly, box_apply, boxes}
 use Rattle.lambda_box.specs.BoxEvaluation.{IsBoxConstructor, is_box_constructor, BoxEvaluates, box_is}
 use Rattle.lambda_box.specs.DataTerms.{evaluable, AreEvaluable, no_evaluable, one_evaluable, DataTerm, data_term, DataFields, no_data_field, data_field, DataTerms, no_data, more_data}
 use Rattle.lambda_box.proofs.Naming.{EachNamed, named_apply, named_boxes}
-use Rattle.lambda_box.proofs.Spines.{boxes_number}
+use Rattle.lambda_box.proofs.Spines.{boxes_number, apply_append}
 use Rattle.erase_laws.specs.Erases.{Erases, construct, ErasesAll, none, one}
 use Rattle.erase_laws.proofs.ErasedRedexes.{counts_at, not_prop, erases_from}
 use Rattle.erase_laws.proofs.ErasedSpines.{all_lengths, apply_erases}
@@ -24,7 +24,6 @@ use Rattle.erase_laws.proofs.Total.{erases}
 use Rattle.first_order.specs.Applied.{IsSourceOf, source_of, AreSourcesOf, no_field_source, field_source, AreArguments}
 use Rattle.applied_terms.proofs.Built.{built_head}
 use Rattle.applied_terms.proofs.Pared.{Pared, pared_construct, ParedList, pared_none, pared_one, pared_apply, pared_parameters, pared_count}
-use Rattle.applied_terms.proofs.ParedSpines.{apply_append}
 use Rattle.applied_terms.proofs.SourceTerms.{constructor_of, fields_count}
 use Rattle.applied_terms.proofs.TypedTerms.{TypedArguments, no_typed, one_typed}
 

@@ -1,12 +1,12 @@
 -- Terms in which box stands for parameters of constructors: a relation that renaming and substitution keep.
 use Rattle.std.proofs.Common.{◌≡◌, ℕ, zero, suc, ◌+◌, ◌≤◌, List, [], ◌∷◌, length, Some, refl, ap, subst, arith}
+use Rattle.std.proofs.lemmas.Option.{same_Some}
 use Rattle.trees.specs.Tree.{Rel, Done, Next, term_at}
 use Rattle.trees.specs.Parallel.{ups, rename, rename_terms, over, overs, first, put, put_all, substitute, substitute_terms}
 use Rattle.pc_terms.specs.declared.leaf.Name.{Name}
 use Rattle.pc_terms.specs.declared.leaf.FamilyId.{FamilyId}
 use Rattle.box_terms.specs.BoxSyntax.{BoxTerm, BoxTerms, Box, BLambda, BLetIn, BApp, BConst, BConstruct, BCase, BFix}
 use Rattle.lambda_box.specs.BoxProgram.{BoxFamily, BoxProgram, KeepsBoxFamily, box_apply, boxes, box_fixpoints}
-use Rattle.lambda_box.proofs.Spines.{one_item}
 use Rattle.applied_terms.proofs.Built.{Built, built_more, WantsParameter, wants_renamed, wants_put}
 
 mutual
@@ -142,7 +142,7 @@ module _ {P : BoxProgram} where
 
   pub pared_at : {ts ts' : BoxTerms} {n : ℕ} {t : BoxTerm} (i : ℕ) → ParedTerms P ts ts' → term_at ts i ≡ Some (n, t) → ParedAt P ts' i n t
   pared_at i pared_done e = absurd (cc)
-  pared_at zero (pared_next {t' = u'} h hs) e = let p = one_item e in record { term = u'; at = ap (λ q. Some (q.0, u')) p; is = subst (λ q. Pared P q.1 u') p h }
+  pared_at zero (pared_next {t' = u'} h hs) e = let p = same_Some _ _ e in record { term = u'; at = ap (λ q. Some (q.0, u')) p; is = subst (λ q. Pared P q.1 u') p h }
   pared_at (suc i) (pared_next h hs) e = let r = pared_at i hs e in record { term = r.term; at = r.at; is = r.is }
 
   -- where the first is box, so is the second

@@ -5,6 +5,7 @@ use Rattle.box_terms.specs.BoxSyntax.{BoxTerm, BoxTerms, Box, BApp, BConstruct, 
 use Rattle.lambda_box.specs.BoxProgram.{BoxFamily, BoxProgram, KeepsBoxFamily, box_apply}
 use Rattle.lambda_box.specs.BoxEvaluation.{IsBoxConstructor, is_box_constructor, BoxTakesMore, constructor, fixpoint, box_unfolded, BoxUnfolds, unfolds}
 use Rattle.lambda_box.specs.BoxData.{Data, BoxReads, box_reads, BoxReadsAll, no_box_field, box_field}
+use Rattle.lambda_box.proofs.Spines.{apply_append}
 use Rattle.applied_terms.proofs.Built.{built_of, built_list, WantsParameter, fix_wants_none, full_wants_none}
 use Rattle.applied_terms.proofs.Pared.{Pared, pared_app, pared_parameter, pared_construct, pared_fix, ParedTerms, ParedList, pared_none, pared_one, pared_put_list, pared_apply, pared_count, pared_fixpoints, pared_at, built_pared}
 
@@ -43,10 +44,6 @@ loose_spine {P} (x ∷ xs) {h} {u} p =
     go : {k : BoxTerm} (zs : List BoxTerm) → u ≡ box_apply k zs → Pared P (BApp h x) k → length zs ≡ length xs → LooseSpine P h (x ∷ xs) u
     go zs e (pared_app {f' = f'} {a' = a'} q q') l = record { head = f'; arguments = a' ∷ zs; is = e; heads = q; count = ap suc l }
     go zs e (pared_parameter {f' = f'} q w) l = record { head = f'; arguments = Box ∷ zs; is = e; heads = q; count = ap suc l }
-
-pub apply_append : (f : BoxTerm) (xs ys : List BoxTerm) → box_apply f (xs ++ ys) ≡ box_apply (box_apply f xs) ys
-apply_append f [] ys = refl
-apply_append f (x ∷ xs) ys = apply_append (BApp f x) xs ys
 
 construct_is : {P : BoxProgram} {f : FamilyId} {c : ℕ} {u : BoxTerm} → Pared P (BConstruct f c) u → u ≡ BConstruct f c
 construct_is pared_construct = refl

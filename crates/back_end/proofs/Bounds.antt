@@ -1,5 +1,6 @@
 -- The bounds on steps and on memory.
 use Rattle.std.proofs.Common.{◌≡◌, ◌∙◌, sym, subst, Bool, ℕ, zero, suc, ◌+◌, ◌*◌, ◌<◌, ◌≤◌, true, false, refl, arith}
+use Rattle.std.proofs.lemmas.Option.{same_Some}
 use Rattle.box_terms.specs.BoxSyntax.{BoxTerm}
 use Rattle.lambda_box.specs.BoxProgram.{BoxProgram}
 use Rattle.lambda_box.specs.BoxEvaluation.{BoxEvaluates, value, constant, let_in, beta, box_app, extend, unfold_fix, enter, enter_only}
@@ -11,7 +12,6 @@ use Rattle.wasm_core.specs.Instance.{greatest_pages}
 use Rattle.wasm_core.specs.MachineStep.{State, Store, Over, Reach}
 use Rattle.wasm_core.specs.WordData.{DataNodes}
 use Rattle.wasm_core.specs.RunTree.{Fate, ended, ran_out}
-use Rattle.wasm_core.proofs.Small.{inj}
 use Rattle.known_calls.specs.KnownModule.{module_of}
 use Rattle.wasm_emit.specs.EmitLaws.{Spent, spent}
 use Rattle.known_calls.specs.KnownLaws.{FinishedWithin}
@@ -50,6 +50,6 @@ bounds P pages m w ns n matched pos small some ok evaluates reads =
     let x = total_back_end P pages m w ns n matched pos small some ok evaluates reads in
     let few = x.few in
     record {
-      steps = λ first k t starts reach. omega (arith, (x.run k t (subst (λ (f : State). Reach (module_of (passed P) pages) k f t) (inj (sym starts ∙ x.starts)) reach)).0, more_steps n (greatest_words P + m) (some_nodes evaluates));
-      memory = λ enough first k trap s starts reach. chosen (omega (arith, more_bytes n (greatest_words P))) (x.run k (Over (Trapped trap) s) (subst (λ (f : State). Reach (module_of (passed P) pages) k f (Over (Trapped trap) s)) (inj (sym starts ∙ x.starts)) reach)).1;
+      steps = λ first k t starts reach. omega (arith, (x.run k t (subst (λ (f : State). Reach (module_of (passed P) pages) k f t) (same_Some _ _ (sym starts ∙ x.starts)) reach)).0, more_steps n (greatest_words P + m) (some_nodes evaluates));
+      memory = λ enough first k trap s starts reach. chosen (omega (arith, more_bytes n (greatest_words P))) (x.run k (Over (Trapped trap) s) (subst (λ (f : State). Reach (module_of (passed P) pages) k f (Over (Trapped trap) s)) (same_Some _ _ (sym starts ∙ x.starts)) reach)).1;
     }

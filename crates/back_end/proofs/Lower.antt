@@ -1,5 +1,6 @@
 -- The lower bound on steps.
 use Rattle.std.proofs.Common.{ℕ, ◌≤◌, [], refl, sym, ◌∙◌, subst, arith}
+use Rattle.std.proofs.lemmas.Option.{same_Some}
 use Rattle.lambda_box.specs.ClosureEvaluation.{Empty, bind_all, ClosureRun}
 use Rattle.lambda_box.specs.DataTerms.{no_data}
 use Rattle.box_passes.proofs.Matches.{same_matches}
@@ -9,7 +10,6 @@ use Rattle.wasm_core.specs.declared.ended.Ended.TheVariants.{Returned}
 use Rattle.wasm_core.specs.Parts.{Parts}
 use Rattle.wasm_core.specs.MachineStep.{State, Store, Over, Reach}
 use Rattle.wasm_core.specs.RunTree.{Fate, ended, ran_out}
-use Rattle.wasm_core.proofs.Small.{inj}
 use Rattle.known_calls.specs.KnownModule.{module_of}
 use Rattle.wasm_emit.specs.EmitLaws.{Spent}
 use Rattle.closure_lift.specs.Lift.{lift}
@@ -31,5 +31,5 @@ lower_bound P pages m w ns n matches pos small some ok evaluates reads first k s
     let d = reads_tree r.v ns r.reads in
     let both = form_suffices P m ok.form ok.constants ok.main ok.constructors in
     let y = back_end P pages m r.v d.0 r.counts pos small some both.0 both.1 ok.limits run d.1 in
-    let least = returned (y.runs.emitted.run k (Over Returned s) (subst (λ (f : State). Reach (module_of (lift (to_anf P)) pages) k f (Over Returned s)) (inj (sym starts ∙ y.runs.emitted.starts)) reach)).1 in
+    let least = returned (y.runs.emitted.run k (Over Returned s) (subst (λ (f : State). Reach (module_of (lift (to_anf P)) pages) k f (Over Returned s)) (same_Some _ _ (sym starts ∙ y.runs.emitted.starts)) reach)).1 in
     omega (arith, r.matches, least)

@@ -1,5 +1,6 @@
 -- Environments that extend others, and the terms that their values are put in for.
 use Rattle.std.proofs.Common.{◌≡◌, ℕ, zero, suc, ◌+◌, ◌-◌, ◌<◌, ◌≤◌, List, [], ◌∷◌, ◌++◌, length, drop, Some, refl, sym, ap, ◌∙◌, subst, arith}
+use Rattle.std.proofs.lemmas.Option.{same_Some}
 use Rattle.std.specs.Prelude.{slice_get}
 use Rattle.trees.specs.Tree.{Rel, term_at}
 use Rattle.trees.specs.Parallel.{first, put, put_all, substitute}
@@ -9,7 +10,7 @@ use Rattle.box_terms.specs.BoxSyntax.{BoxTerm, BoxTerms, Box, BFix}
 use Rattle.lambda_box.specs.BoxProgram.{BoxProgram, boxes, box_fixpoints}
 use Rattle.lambda_box.specs.BoxEvaluation.{box_unfolded}
 use Rattle.lambda_box.specs.ClosureEvaluation.{ClosureValue, VBox, VFix, ClosureValues, NoValue, Then, ClosureEnv, Bind, BindFix, bind_all, box_values, size, Holds, Defines, Finds, found, later, found_fix, past_fix}
-use Rattle.lambda_box.proofs.Spines.{same_body, arguments, arguments_before, boxes_number, fixpoints_number, one_item}
+use Rattle.lambda_box.proofs.Spines.{same_body, arguments, arguments_before, boxes_number, fixpoints_number}
 use Rattle.box_passes.proofs.Selves.{made_count}
 use Rattle.box_passes.proofs.Standing.{IsValue, is_box, is_fix, Stands, StandBody, StandDefs, no_defs, one_def, Made, made_head, made_dropped, made_kept, Extends, Filled, Fills, stands_put, stands_put_body}
 
@@ -134,7 +135,7 @@ pub record DefAt (P : BoxProgram) (n r k : ℕ) (e : ClosureEnv) (ts bs : BoxTer
 
 pub def_at : {P : BoxProgram} {n r k : ℕ} {rs : List ℕ} {e : ClosureEnv} {ts bs : BoxTerms} (i : ℕ) → StandDefs P n rs k e ts bs → slice_get rs i ≡ Some r → DefAt P n r k e ts bs i
 def_at i no_defs eq = absurd (cc)
-def_at {P} {n} {r} {k} {e = e} zero (one_def {t = t} {b = b} h hs) eq = record { t = t; b = b; left = refl; right = refl; stands = subst (λ r. StandBody P r (n + k) e t b) (one_item eq) h }
+def_at {P} {n} {r} {k} {e = e} zero (one_def {t = t} {b = b} h hs) eq = record { t = t; b = b; left = refl; right = refl; stands = subst (λ r. StandBody P r (n + k) e t b) (same_Some _ _ eq) h }
 def_at (suc i) (one_def h hs) eq = let d = def_at i hs eq in record { t = d.t; b = d.b; left = d.left; right = d.right; stands = d.stands }
 
 pub slice_found : (rs : List ℕ) (i : ℕ) → i < length rs → (r : ℕ) × (slice_get rs i ≡ Some r)

@@ -1,6 +1,7 @@
 -- Evaluation with environments of a saturated program follows evaluation by substitution of the program before.
 use Rattle.std.proofs.Common.{◌≡◌, ℕ, zero, suc, ◌+◌, ◌<◌, ◌≤◌, List, [], ◌++◌, length, true, Some, refl, sym, ap, ◌∙◌, subst, ⊎_elim, arith, length-append}
 use Rattle.std.proofs.lemmas.Bool.{cases_lt}
+use Rattle.std.proofs.lemmas.Option.{same_Some}
 use Rattle.std.specs.Prelude.{slice_get}
 use Rattle.trees.specs.Tree.{Rel, Done, Next, term_at}
 use Rattle.trees.specs.Parallel.{put, put_all, substitute}
@@ -14,13 +15,15 @@ use Rattle.lambda_box.specs.BoxEvaluation.{IsBoxConstructor, is_box_constructor,
 use Rattle.box_passes.specs.Saturate.{innermost, lambdas, constructor_function}
 use Rattle.lambda_box.specs.ClosureEvaluation.{ClosureValue, VBox, VConstruct, VClosure, VFix, ClosureValues, NoValue, Then, ClosureEnv, Empty, Bind, bind_all, box_values, size, Held, Holds, Defines, held_value, Finds, found, later, Counts, nothing, constructor_block, ◌⊕◌, ClosureRun, run_box, run_value, run_definition}
 use Rattle.lambda_box.specs.ClosureEvaluation.{run_lambda, run_fix, run_constant, run_let, run_app, run_box_app, run_construct, run_match, run_only, RunArgs, run_head, run_arg}
-use Rattle.lambda_box.proofs.Spines.{head_of, arguments, constructor_head, constructor_arguments, fix_head, fix_arguments, closed_evaluates, one_item}
+use Rattle.lambda_box.proofs.Spines.{head_of, arguments, constructor_head, constructor_arguments, fix_head, fix_arguments, closed_evaluates, construct_not_fix}
+use Rattle.lambda_box.proofs.Determined.{lambda_takes_no_more, box_takes_no_more, lambda_stays, box_stays}
+use Rattle.lambda_box.proofs.ConstructorBlocks.{constructor_block_small, constructor_block_quiet, constructor_block_matches}
 use Rattle.box_passes.proofs.Standing as standing
 use Rattle.box_passes.proofs.Standing.{IsValue, is_box, is_lambda, is_fix, is_part, is_part_box, is_construct, is_waiting, Stands, StandTerms, none, next, StandBody, StandArgs, args_head, args_dropped, args_kept, Made, made_head, made_dropped, made_kept, Waits, waits_head, waits_more, Part}
 use Rattle.box_passes.proofs.Standing.{part_app, part_box, closed_value, closed_stands}
-use Rattle.box_passes.proofs.Selves.{made_is, made_count, waits_is, waits_count, part_no_construct, no_fix, no_lambda, no_box, construct_not_unfolded, unfolded_now, self, quiet}
+use Rattle.box_passes.proofs.Selves.{made_is, made_count, waits_is, waits_count, part_no_construct, no_lambda, no_box, construct_not_unfolded, unfolded_now, self, quiet}
 use Rattle.box_passes.proofs.Filling.{stands_one, stands_boxes, made_size, stands_made}
-use Rattle.box_passes.proofs.Opening.{Bare, BoxBody, Enter, Gives, GivesArgs, LastBody, box_body, box_body_of, box_takes_none, box_unfolds_not, fix_entry, lambda_takes_none, lambda_unfolds_not, last_body, last_body_of, opened_at, part_shape, part_waits, enter_run, enter_box}
+use Rattle.box_passes.proofs.Opening.{Bare, BoxBody, Enter, Gives, GivesArgs, LastBody, box_body, box_body_of, fix_entry, last_body, last_body_of, opened_at, part_shape, part_waits, enter_run, enter_box}
 
 -- a constructor's function at its last argument
 record Taken (P : BoxProgram) (f : FamilyId) (c p j : ℕ) (t : BoxTerm) (e : ClosureEnv) : Type 0 where
@@ -105,18 +108,6 @@ pub record ConstantAt (P P' : BoxProgram) (k : Name) (b : BoxTerm) : Type 0 wher
   pub keeps : KeepsBoxConstant P' k body
   pub stands : Stands P 0 Empty b body
 
-constructor_block_small : (n : ℕ) → (constructor_block n).blocks ≤ 1
-constructor_block_small zero = omega arith
-constructor_block_small (suc n) = omega arith
-
-constructor_block_quiet : (n : ℕ) → (constructor_block n).contractions ≡ 0
-constructor_block_quiet zero = refl
-constructor_block_quiet (suc n) = refl
-
-constructor_block_matches : (n : ℕ) → (constructor_block n).matches ≡ 0
-constructor_block_matches zero = refl
-constructor_block_matches (suc n) = refl
-
 -- the branches of a match, on both sides
 record BranchAt (P : BoxProgram) (n k : ℕ) (e : ClosureEnv) (bs : BoxTerms) (i : ℕ) (t : BoxTerm) : Type 0 where
   b : BoxTerm
@@ -126,7 +117,7 @@ record BranchAt (P : BoxProgram) (n k : ℕ) (e : ClosureEnv) (bs : BoxTerms) (i
 branch_at : {P : BoxProgram} {n k : ℕ} {e : ClosureEnv} {ts bs : BoxTerms} {t : BoxTerm} (i : ℕ) → StandTerms P k e ts bs → term_at ts i ≡ Some (n, t) → BranchAt P n k e bs i t
 branch_at i none eq = absurd (cc)
 branch_at {P} {n} {k} {e} {t = t} zero (next {n = m} {t = u} {b = b} h hs) eq =
-    let p = one_item eq in
+    let p = same_Some _ _ eq in
     record { b = b; at = ap (λ q. Some (q.0, b)) p; stands = subst (λ q. Stands P (q.0 + k) e q.1 b) p h }
 branch_at (suc i) (next h hs) eq = let r = branch_at i hs eq in record { b = r.b; at = r.at; stands = r.stands }
 
@@ -141,7 +132,7 @@ construct_value head (is_construct F at h) = ready F at h
 construct_value head (is_waiting F at h) = waiting F at h
 construct_value head is_box = absurd (no_box head)
 construct_value head (is_lambda h) = absurd (no_lambda head)
-construct_value head (is_fix h lt) = absurd (no_fix (sym head))
+construct_value head (is_fix h lt) = absurd (construct_not_fix (sym head))
 construct_value head (is_part p) = absurd (part_no_construct p head)
 construct_value head (is_part_box p) = absurd (part_no_construct p head)
 
@@ -152,6 +143,17 @@ family_name t g = g
 abbrev pub constructor_number : BoxTerm → ℕ
 constructor_number (BConstruct f c) = c
 constructor_number t = 0
+
+-- the counts of a constructor are determined
+module _ (P : BoxProgram) (unique : (f : FamilyId) (F G : BoxFamily) → KeepsBoxFamily P f F → KeepsBoxFamily P f G → F ≡ G) where
+  same_family_kept : {f g : FamilyId} {c d : ℕ} {F G : BoxFamily} → BConstruct f c ≡ BConstruct g d → KeepsBoxFamily P f F → KeepsBoxFamily P g G → F ≡ G
+  same_family_kept {f} {g} {F = F} {G = G} e k l = let fg : f ≡ g = ap (λ t. family_name t f) e in unique g F G (subst (λ h. KeepsBoxFamily P h F) fg k) l
+
+  pub same_counts : {f g : FamilyId} {c d n m : ℕ} {F G : BoxFamily} → BConstruct f c ≡ BConstruct g d → KeepsBoxFamily P f F → slice_get F.args c ≡ Some n → KeepsBoxFamily P g G → slice_get G.args d ≡ Some m → (F.params ≡ G.params) × (n ≡ m)
+  same_counts {f} {g} {c} {d} {n} {m} {F} {G} e k at l at' =
+      let FG = same_family_kept e k l in
+      let cd : c ≡ d = ap constructor_number e in
+      (ap (λ H. H.params) FG, same_Some _ _ (sym at ∙ ap (λ H. slice_get H.args c) FG ∙ ap (slice_get G.args) cd ∙ at'))
 
 evaluates_positive : {P : BoxProgram} {t w : BoxTerm} {n m : ℕ} → BoxEvaluates P t w n m → 1 ≤ n
 evaluates_positive (value i) = omega arith
@@ -168,16 +170,6 @@ module _ (P P' : BoxProgram) (constants : (k : Name) (b : BoxTerm) → KeepsBoxC
     (unique : (f : FamilyId) (F G : BoxFamily) → KeepsBoxFamily P f F → KeepsBoxFamily P f G → F ≡ G) where
   closed : (k : Name) (b : BoxTerm) → KeepsBoxConstant P k b → Closed 0 b
   closed k b at = closed_stands (constants k b at).stands
-
-  -- the counts of a constructor are determined
-  same_family_kept : {f g : FamilyId} {c d : ℕ} {F G : BoxFamily} → BConstruct f c ≡ BConstruct g d → KeepsBoxFamily P f F → KeepsBoxFamily P g G → F ≡ G
-  same_family_kept {f} {g} {F = F} {G = G} e k l = let fg : f ≡ g = ap (λ t. family_name t f) e in unique g F G (subst (λ h. KeepsBoxFamily P h F) fg k) l
-
-  pub same_counts : {f g : FamilyId} {c d n m : ℕ} {F G : BoxFamily} → BConstruct f c ≡ BConstruct g d → KeepsBoxFamily P f F → slice_get F.args c ≡ Some n → KeepsBoxFamily P g G → slice_get G.args d ≡ Some m → (F.params ≡ G.params) × (n ≡ m)
-  same_counts {f} {g} {c} {d} {n} {m} {F} {G} e k at l at' =
-      let FG = same_family_kept e k l in
-      let cd : c ≡ d = ap constructor_number e in
-      (ap (λ H. H.params) FG, one_item (sym at ∙ ap (λ H. slice_get H.args c) FG ∙ ap (slice_get G.args) cd ∙ at'))
 
   var_gives : {t w : BoxTerm} {e : ClosureEnv} {n m i j : ℕ} (h : Held) → j ≡ 0 + i → Finds e i h → IsValue P t (held_value h) → BoxEvaluates P t w n m → Gives P P' e (Rel j) w n m
   var_gives {t} {w} {e} {n} {m} {i} {j} (Holds v) eq at is d =
@@ -367,10 +359,10 @@ module _ (P P' : BoxProgram) (constants : (k : Name) (b : BoxTerm) → KeepsBoxC
       go (unfolded_now en.part un) (part_shape en.part) o.stands o.gives
     where
       boxes_none : {j : ℕ} {w : BoxTerm} → BoxBody w j → (BoxTakesMore P w → ⊥) × ((b c : BoxTerm) → BoxUnfolds w b c → ⊥)
-      boxes_none box_body = (box_takes_none, λ b c u. box_unfolds_not u)
+      boxes_none box_body = (box_takes_no_more, λ b c u. box_stays u)
 
       lambdas_none : {e : ClosureEnv} {b w : BoxTerm} {j : ℕ} → LastBody P e b w j → (BoxTakesMore P w → ⊥) × ((b c : BoxTerm) → BoxUnfolds w b c → ⊥)
-      lambdas_none (last_body h) = (lambda_takes_none, λ b c u. lambda_unfolds_not u)
+      lambdas_none (last_body h) = (lambda_takes_no_more, λ b c u. lambda_stays u)
 
       go : {r j jm : ℕ} {e' : ClosureEnv} {b t : BoxTerm} → r ≡ 0 → IsFixBody r b → StandBody P r 0 e' t b → BoxEvaluates P t y j jm → (BoxTakesMore P y → ⊥) × ((b c : BoxTerm) → BoxUnfolds y b c → ⊥)
       go z boxed h d = boxes_none (box_body_of h d)
@@ -413,7 +405,7 @@ module _ (P P' : BoxProgram) (constants : (k : Name) (b : BoxTerm) → KeepsBoxC
             made = omega (arith, q.blocks, gf.made, ga.made);
             matches = λ bare. omega (arith, q.matches, gf.matches bare, ga.matches bare);
           }
-      go run (ready F' at' h) = let same = same_counts (sym head ∙ made_is h) keeps at F' at' in absurd (omega (arith, made_count h, same.0, same.1))
+      go run (ready F' at' h) = let same = same_counts P unique (sym head ∙ made_is h) keeps at F' at' in absurd (omega (arith, made_count h, same.0, same.1))
 
   enter_gives : {e : ClosureEnv} {s' v body w : BoxTerm} {ts bs : BoxTerms} (n n' m m' : ℕ) {f : FamilyId} {c : ℕ} {qs xs : List BoxTerm} → IsBoxConstructor P f c v qs xs → term_at ts c ≡ Some (length xs, body) → StandTerms P 0 e ts bs → Gives P P' e s' v n m →
       ((e' : ClosureEnv) (d : BoxTerm) → Stands P 0 e' (substitute (put_all xs Rel) body) d → Gives P P' e' d w n' m') → Gives P P' e (BCase f s' bs) w (suc (n + n')) (suc (m + m'))
@@ -431,7 +423,7 @@ module _ (P P' : BoxProgram) (constants : (k : Name) (b : BoxTerm) → KeepsBoxC
       go : {val : ClosureValue} → ClosureRun P' e s' val gs.c → ConstructValue P v val → Gives P P' e (BCase f s' bs) w (suc (n + n')) (suc (m + m'))
       go run (ready {f = g} {c = c'} {vs = vs} F' at' made) =
           let e1 = sym (made_is made) ∙ head in
-          let same = same_counts e1 F' at' keeps at in
+          let same = same_counts P unique e1 F' at' keeps at in
           let count : size vs ≡ length xs = omega (arith, made_size made, same.0, same.1, lx) in
           let b = branch_at c hs tat in
           let G = families f F keeps in
@@ -448,7 +440,7 @@ module _ (P P' : BoxProgram) (constants : (k : Name) (b : BoxTerm) → KeepsBoxC
             made = omega (arith, gs.made, r.made);
             matches = λ bare. omega (arith, gs.matches bare, r.matches bare);
           }
-      go run (waiting F' at' h) = let same = same_counts (sym (waits_is h) ∙ head) F' at' keeps at in absurd (omega (arith, waits_count h, many, same.0, same.1))
+      go run (waiting F' at' h) = let same = same_counts P unique (sym (waits_is h) ∙ head) F' at' keeps at in absurd (omega (arith, waits_count h, many, same.0, same.1))
 
   only_gives : {e : ClosureEnv} {s' body w b : BoxTerm} (n n' m m' k : ℕ) {f : FamilyId} {F : BoxFamily} → KeepsBoxFamily P f F → F.propositional ≡ true → Gives P P' e s' Box n m → Stands P (k + 0) e body b →
       ((e' : ClosureEnv) (d : BoxTerm) → Stands P 0 e' (substitute (put_all (boxes k) Rel) body) d → Gives P P' e' d w n' m') → Gives P P' e (BCase f s' (Next k b Done)) w (suc (n + n')) (suc (m + m'))

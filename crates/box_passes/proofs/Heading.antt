@@ -10,6 +10,7 @@ use Rattle.box_terms.specs.declared.term.BoxBranch.{BoxBranch}
 use Rattle.box_terms.specs.declared.term.BoxDef.{BoxDef}
 use Rattle.lambda_box.specs.BoxProgram.{BoxFamily, BoxConstant, BoxProgram, Has, here, there, box_apply}
 use Rattle.lambda_box.specs.OrdinaryForm.{family_of}
+use Rattle.lambda_box.proofs.Families.{has_map}
 use Rattle.box_passes.specs.Saturate.{innermost, lambdas, constructor_function, saturate_family, saturate_applied, saturate_terms, saturate_term}
 use Rattle.box_passes.specs.Heads.{arity_in, spare_of, head_of, spare, applied, head, heads}
 use Rattle.box_passes.specs.Maps.{map_branch, map_def, AreDeep, AreShallow, deep_body}
@@ -188,12 +189,8 @@ has_item [] i x l e = absurd (omega arith)
 has_item (y ∷ xs) zero x l e = along (λ z. Has (y ∷ xs) z) (sym e) here
 has_item (y ∷ xs) (suc i) x l e = there (has_item xs i x (omega arith) e)
 
-has_mapped : {A B : Type 0} (f : A → B) {xs : List A} {x : A} → Has xs x → Has (map f xs) (f x)
-has_mapped f here = here
-has_mapped f (there h) = there (has_mapped f h)
-
 pub deep_at : (f : BoxConstant → BoxConstant) (xs cs : List BoxConstant) (i : ℕ) (d : BoxConstant) → reverse xs ≡ cs → i < length xs → d ≡ get_or xs i d → 2048 < depth (f d).body → AreDeep (map f cs)
-deep_at f xs cs i d r l e h = along (λ cs. AreDeep (map f cs)) r (deep_body (f d) (has_mapped f (has_turned (has_item xs i d l e))) h)
+deep_at f xs cs i d r l e h = along (λ cs. AreDeep (map f cs)) r (deep_body (f d) (has_map f (has_turned (has_item xs i d l e))) h)
 
 pub deep_program : (P : BoxProgram) → AreDeep P.constants → IsDeep P
 deep_program P (deep_body d h l) = deep_constant d h l

@@ -11,7 +11,7 @@ use Rattle.box_passes.specs.Saturate.{innermost, saturate_program}
 use Rattle.box_passes.specs.SaturateLaws.{SaturatedRuns}
 use Rattle.lambda_box.specs.DataTerms.{evaluable, AreEvaluable, no_evaluable, one_evaluable, DataTerm, data_term, DataFields, no_data_field, data_field, DataTerms, no_data, more_data, ValuesHold, hold_none, hold_last}
 use Rattle.lambda_box.specs.ClosureEvaluation.{ClosureValue, VConstruct, ClosureValues, NoValue, Then, ClosureEnv, Empty, bind_all, size, Holds, Finds, found, later, ValueReads, value_reads, ValuesRead, no_values, and_then}
-use Rattle.lambda_box.proofs.Spines.{head_of, arguments, arguments_before, constructor_head, constructor_arguments}
+use Rattle.lambda_box.proofs.Spines.{head_of, arguments, arguments_before, constructor_head, constructor_arguments, apply_append}
 use Rattle.box_passes.proofs.Standing as standing
 use Rattle.box_passes.proofs.Standing.{IsValue, is_box, is_lambda, is_fix, is_part, is_part_box, is_construct, is_waiting, Stands, Made, made_head, made_dropped, made_kept, Waits}
 use Rattle.box_passes.proofs.Selves.{made_is, made_count, waits_is, waits_count, one_more, part_no_construct, fix_no_construct, no_lambda, no_box}
@@ -48,10 +48,6 @@ nothing_read NoValue [] z e no_box_field = no_values
 nothing_read NoValue (y ∷ ys) z e r = absurd (cc)
 nothing_read (Then v vs) ys z e r = absurd (omega arith)
 
-apply_append : (f : BoxTerm) (xs ys : List BoxTerm) → box_apply f (xs ++ ys) ≡ box_apply (box_apply f xs) ys
-apply_append f [] ys = refl
-apply_append f (x ∷ xs) ys = apply_append (BApp f x) xs ys
-
 read_last : {P : BoxProgram} {xs : List BoxTerm} {u : BoxTerm} {ds : Data} {v : ClosureValue} {vs : ClosureValues} (q : LastField P xs u ds) → ValuesRead vs q.ds' → ValueReads v q.d → ValuesRead (Then v vs) ds
 read_last {v = v} {vs = vs} q rs r = subst (λ ds. ValuesRead (Then v vs) ds) (sym q.split) (and_then rs r)
 
@@ -61,7 +57,7 @@ module _ (P P' : BoxProgram) (constants : (k : Name) (b : BoxTerm) → KeepsBoxC
       IsBoxConstructor P g c' w qs xs → (drop F.params (arguments w []) ≡ xs → ValuesRead vs ds) → ValueReads (VConstruct f c vs) ((c', length xs) ∷ ds)
   constructed {f} {g} {c} {c'} {n} {F} {w} {vs} {qs} {xs} {ds} keeps at made (is_box_constructor {F = G} {n = k} keeps' p at' lq lx e) rec =
       let e1 = sym (made_is made) ∙ constructor_head (qs ++ xs) e in
-      let same = same_counts P P' constants families unique e1 keeps at keeps' at' in
+      let same = same_counts P unique e1 keeps at keeps' at' in
       let args = constructor_arguments g c' (qs ++ xs) e in
       let read = rec (ap (drop F.params) args ∙ drop_first F.params qs xs (omega (arith, lq, same.0))) in
       let count : size vs ≡ length xs = omega (arith, made_size made, same.1, lx) in
@@ -71,7 +67,7 @@ module _ (P P' : BoxProgram) (constants : (k : Name) (b : BoxTerm) → KeepsBoxC
   not_waiting : {f g : FamilyId} {c c' n m : ℕ} {F : BoxFamily} {w : BoxTerm} {e : ClosureEnv} {qs xs : List BoxTerm} → KeepsBoxFamily P f F → slice_get F.args c ≡ Some n → Waits P f c (F.params + n) (suc m) w e → IsBoxConstructor P g c' w qs xs → ⊥
   not_waiting {g = g} {c' = c'} {qs = qs} {xs = xs} keeps at h (is_box_constructor {F = G} {n = k} keeps' p at' lq lx e) =
       let e1 = sym (waits_is h) ∙ constructor_head (qs ++ xs) e in
-      let same = same_counts P P' constants families unique e1 keeps at keeps' at' in
+      let same = same_counts P unique e1 keeps at keeps' at' in
       let args = ap length (constructor_arguments g c' (qs ++ xs) e) in
       omega (arith, waits_count h, args, length-append qs xs, lq, lx, same.0, same.1)
 

@@ -52,7 +52,7 @@ module _ (C : ℕ) where
             (cases_lt m n),
       )
 
-plain_boxes : (n : ℕ) (e : ClosureEnv) → plain (bind_all (box_values n) e) ≡ n + plain e
+pub plain_boxes : (n : ℕ) (e : ClosureEnv) → plain (bind_all (box_values n) e) ≡ n + plain e
 plain_boxes zero e = omega arith
 plain_boxes (suc n) e = omega (arith, plain_boxes n e)
 

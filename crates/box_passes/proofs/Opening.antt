@@ -1,5 +1,6 @@
 -- How values are entered, and fixpoints opened, on both sides of saturation.
 use Rattle.std.proofs.Common.{◌≡◌, ℕ, suc, ◌+◌, ◌*◌, ◌<◌, ◌≤◌, List, [], ◌∷◌, ◌++◌, length, Some, refl, sym, ap, ◌∙◌, subst, arith}
+use Rattle.std.proofs.lemmas.Option.{same_Some}
 use Rattle.std.specs.Prelude.{slice_get}
 use Rattle.trees.specs.Tree.{term_at}
 use Rattle.trees.specs.Parallel.{put, substitute}
@@ -9,15 +10,16 @@ use Rattle.pc_terms.specs.declared.leaf.FamilyId.{FamilyId}
 use Rattle.box_terms.specs.BoxSyntax.{BoxTerm, BoxTerms, Box, BLambda, BApp, BFix}
 use Rattle.lambda_box.specs.BoxProgram.{BoxFamily, BoxProgram, Has, KeepsBoxConstant, box_apply}
 use Rattle.lambda_box.specs.BoxForm.{IsFixBody, boxed, last, more}
-use Rattle.lambda_box.specs.BoxEvaluation.{box_is, BoxTakesMore, constructor, fixpoint, box_unfolded, BoxUnfolds, unfolds, BoxEvaluates, value, beta, box_app, extend, unfold_fix}
+use Rattle.lambda_box.specs.BoxEvaluation.{box_is, BoxTakesMore, box_unfolded, BoxUnfolds, BoxEvaluates, value, beta, box_app, extend, unfold_fix}
 use Rattle.lambda_box.specs.ClosureEvaluation.{ClosureValue, VBox, VClosure, VFix, ClosureValues, ClosureEnv, Bind, BindFix, Counts, ◌⊕◌, ClosureRun}
 use Rattle.lambda_box.specs.ClosureEvaluation.{run_app, run_box_app, run_fix_app, run_fix_box, RunArgs}
-use Rattle.lambda_box.proofs.Spines.{head_of, arguments, arguments_before, constructor_head, fix_head, fix_arguments, one_item}
+use Rattle.lambda_box.proofs.Spines.{head_of, arguments, arguments_before, fix_head, fix_arguments, construct_not_fix}
 use Rattle.box_passes.proofs.Standing.{IsValue, is_box, is_lambda, is_fix, is_part, is_part_box, is_construct, is_waiting, Stands, StandBody, body_boxed, body_last, body_more, Made}
 use Rattle.box_passes.proofs.Standing.{Part, part_fix, part_app, part_box}
-use Rattle.box_passes.proofs.Selves.{made_is, waits_is, part_is, index_of, rargs_of, bodies_of, no_fix, no_lambda, no_box, self, quiet}
+use Rattle.box_passes.proofs.Selves.{made_is, waits_is, part_is, index_of, rargs_of, bodies_of, self, quiet}
 use Rattle.box_passes.proofs.Filling.{body_one, def_at, slice_found, body_unfolded}
 use Rattle.lambda_box.proofs.Spines.{same_body}
+use Rattle.lambda_box.proofs.Determined.{lambda_takes_no_more, box_takes_no_more, lambda_stays, box_stays}
 
 abbrev pub Bare : BoxProgram → Type 0
 Bare P = (F : BoxFamily) → Has P.families F → F.params ≡ 0
@@ -63,13 +65,13 @@ fix_entry e (is_fix {i = i} {rargs = rargs} h l) =
     record { n = _; e = _; b = _; part = part_fix h at.1 d.right; enters = en_fix d.right }
 fix_entry e is_box = absurd (cc)
 fix_entry e (is_lambda h) = absurd (cc)
-fix_entry e (is_construct F at h) = absurd (no_fix (sym (made_is h) ∙ e))
-fix_entry e (is_waiting F at h) = absurd (no_fix (sym (waits_is h) ∙ e))
+fix_entry e (is_construct F at h) = absurd (construct_not_fix (sym (made_is h) ∙ e))
+fix_entry e (is_waiting F at h) = absurd (construct_not_fix (sym (waits_is h) ∙ e))
 
 pub part_waits : {P : BoxProgram} {n i k : ℕ} {rargs : List ℕ} {ts : BoxTerms} {t b : BoxTerm} {e : ClosureEnv} → Part P n t e b → head_of t ≡ BFix i rargs ts → slice_get rargs i ≡ Some k → k ≡ n + length (arguments t [])
 part_waits p h at =
     let q = part_is p in
-    one_item (sym at ∙ sym (ap (λ t. slice_get (rargs_of t) (index_of t)) (sym q.head ∙ h)) ∙ q.waits)
+    same_Some _ _ (sym at ∙ sym (ap (λ t. slice_get (rargs_of t) (index_of t)) (sym q.head ∙ h)) ∙ q.waits)
 
 body_shape : {P : BoxProgram} {r k : ℕ} {e : ClosureEnv} {t b : BoxTerm} → StandBody P r k e t b → IsFixBody r b
 body_shape body_boxed = boxed
@@ -103,20 +105,6 @@ last_body_of (body_last h) (value i) = last_body h
 pub box_body_of : {P : BoxProgram} {n k m : ℕ} {e : ClosureEnv} {t w : BoxTerm} → StandBody P n 0 e t Box → BoxEvaluates P t w k m → BoxBody w m
 box_body_of body_boxed (value i) = box_body
 
-pub lambda_takes_none : {P : BoxProgram} {b : BoxTerm} → BoxTakesMore P (BLambda b) → ⊥
-lambda_takes_none (constructor f c xs k at l e) = no_lambda (constructor_head xs e)
-lambda_takes_none (fixpoint i rargs bodies xs at l e) = let h = fix_head xs e in absurd (cc)
-
-pub box_takes_none : {P : BoxProgram} → BoxTakesMore P Box → ⊥
-box_takes_none (constructor f c xs k at l e) = no_box (constructor_head xs e)
-box_takes_none (fixpoint i rargs bodies xs at l e) = let h = fix_head xs e in absurd (cc)
-
-pub lambda_unfolds_not : {b v u : BoxTerm} → BoxUnfolds (BLambda b) v u → ⊥
-lambda_unfolds_not (unfolds i rargs bodies xs r l at e) = let h = fix_head xs e in absurd (cc)
-
-pub box_unfolds_not : {v u : BoxTerm} → BoxUnfolds Box v u → ⊥
-box_unfolds_not (unfolds i rargs bodies xs r l at e) = let h = fix_head xs e in absurd (cc)
-
 -- some term is the body and evaluates to the value in no more nodes
 pub record Opened (P : BoxProgram) (n : ℕ) (e : ClosureEnv) (b w : BoxTerm) (k m : ℕ) : Type 0 where
   pub t : BoxTerm
@@ -148,11 +136,11 @@ module _ (P : BoxProgram) (closed : (k : Name) (b : BoxTerm) → KeepsBoxConstan
   opened_app g rec (extend d1 d2 m) = let o = rec _ _ _ d1 in absurd (no (lambda_body_of o.stands o.gives) m)
     where
       no : {n j : ℕ} {e : ClosureEnv} {b w : BoxTerm} → LambdaBody P n e b w j → BoxTakesMore P w → ⊥
-      no (lambda_body h) m = lambda_takes_none m
+      no (lambda_body h) m = lambda_takes_no_more m
   opened_app g rec (unfold_fix d1 d2 x d3) = let o = rec _ _ _ d1 in absurd (no (lambda_body_of o.stands o.gives) x)
     where
       no : {n j : ℕ} {e : ClosureEnv} {b w v u : BoxTerm} → LambdaBody P n e b w j → BoxUnfolds w v u → ⊥
-      no (lambda_body h) x = lambda_unfolds_not x
+      no (lambda_body h) x = lambda_stays x
 
   opened_box : {n k m : ℕ} {e : ClosureEnv} {s u w : BoxTerm} {val : ClosureValue} → IsValue P u val → ((w' : BoxTerm) (k' m' : ℕ) → BoxEvaluates P s w' k' m' → Opened P (suc n) e Box w' k' m') →
       BoxEvaluates P (BApp s u) w k m → Opened P n e Box w k m
@@ -166,11 +154,11 @@ module _ (P : BoxProgram) (closed : (k : Name) (b : BoxTerm) → KeepsBoxConstan
   opened_box g rec (extend d1 d2 m) = let o = rec _ _ _ d1 in absurd (no (box_body_of o.stands o.gives) m)
     where
       no : {w : BoxTerm} {j : ℕ} → BoxBody w j → BoxTakesMore P w → ⊥
-      no box_body m = box_takes_none m
+      no box_body m = box_takes_no_more m
   opened_box g rec (unfold_fix d1 d2 x d3) = let o = rec _ _ _ d1 in absurd (no (box_body_of o.stands o.gives) x)
     where
       no : {w v u : BoxTerm} {j : ℕ} → BoxBody w j → BoxUnfolds w v u → ⊥
-      no box_body x = box_unfolds_not x
+      no box_body x = box_stays x
 
   -- an unfolded fixpoint with its values
   opened : {n k m : ℕ} {t b x w : BoxTerm} {e : ClosureEnv} → Part P n t e b → term_at (bodies_of (head_of t)) (index_of (head_of t)) ≡ Some (length (rargs_of (head_of t)), x) →

@@ -1,5 +1,6 @@
 -- Dropped matches on propositional families keep data: some of a term's matches may be dropped, and evaluation follows.
 use Rattle.std.proofs.Common.{◌≡◌, ℕ, zero, suc, ◌+◌, ◌≤◌, Bool, true, false, List, [], ◌∷◌, ◌++◌, length, map, Option, Some, None, refl, sym, ap, ◌∙◌, subst, arith}
+use Rattle.std.proofs.lemmas.Option.{same_Some}
 use Rattle.std.specs.Prelude.{if◌then◌else◌}
 use mathlib.Core.Path.{fun_ext}
 use Rattle.trees.specs.Tree.{Rel, Done, Next, term_at}
@@ -17,7 +18,7 @@ use Rattle.lambda_box.specs.DataTerms.{Evaluable, evaluable, AreEvaluable, no_ev
 use Rattle.lambda_box.specs.OrdinaryForm.{same_family, family_of}
 use Rattle.lambda_box.specs.OrdinaryForm.{propositional_of}
 use Rattle.box_passes.specs.PropMatch.{only_branch, match_of, drop_matches, drop_matches_terms, drop_matches_constant, prop_match_program, PropMatchKeeps}
-use Rattle.lambda_box.proofs.Spines.{boxes_number, one_item}
+use Rattle.lambda_box.proofs.Spines.{boxes_number}
 use Rattle.lambda_box.proofs.Families.{same_family_is, unique_family, has_map}
 
 mutual
@@ -146,7 +147,7 @@ module _ (Fs : List BoxFamily) where
 
   drops_at : {ts ts' : BoxTerms} {n : ℕ} {t : BoxTerm} (i : ℕ) → DropsTerms Fs ts ts' → term_at ts i ≡ Some (n, t) → DroppedAt ts' i n t
   drops_at i drops_done e = absurd (cc)
-  drops_at {n = n} {t = t} zero (drops_next {n = m} {t = u} {t' = u'} h hs) e = let p = one_item e in record { t' = u'; at = ap (λ q. Some (q.0, u')) p; is = subst (λ q. Drops Fs q.1 u') p h }
+  drops_at {n = n} {t = t} zero (drops_next {n = m} {t = u} {t' = u'} h hs) e = let p = same_Some _ _ e in record { t' = u'; at = ap (λ q. Some (q.0, u')) p; is = subst (λ q. Drops Fs q.1 u') p h }
   drops_at (suc i) (drops_next h hs) e = let r = drops_at i hs e in record { t' = r.t'; at = r.at; is = r.is }
 
   drops_fixpoints : (i n : ℕ) (rargs : List ℕ) {bs bs' : BoxTerms} → DropsTerms Fs bs bs' → DropsList (box_fixpoints i n rargs bs) (box_fixpoints i n rargs bs')
@@ -313,7 +314,7 @@ module _ (P : BoxProgram) (ok : IsBoxProgram P) (Q : BoxProgram) (same_families 
 
 found_or_later : (F G : BoxFamily) (Fs : List BoxFamily) (f : FamilyId) (b : Bool) → same_family G.id f ≡ b → (family_of Fs f ≡ Some F → Has Fs F × (F.id ≡ f)) → (if b then Some G else family_of Fs f) ≡ Some F →
     Has (G ∷ Fs) F × (F.id ≡ f)
-found_or_later F G Fs f true q rec e = subst (λ H. Has (G ∷ Fs) H × (H.id ≡ f)) (one_item e) (here, same_family_is G.id f q)
+found_or_later F G Fs f true q rec e = subst (λ H. Has (G ∷ Fs) H × (H.id ≡ f)) (same_Some _ _ e) (here, same_family_is G.id f q)
 found_or_later F G Fs f false q rec e = let r = rec e in (there r.0, r.1)
 
 pub family_of_is : (Fs : List BoxFamily) (f : FamilyId) (F : BoxFamily) → family_of Fs f ≡ Some F → Has Fs F × (F.id ≡ f)

@@ -22,6 +22,7 @@ use Rattle.trees.proofs.Every.{every_substitute}
 use Rattle.lambda_box.proofs.Spines.{boxes_number}
 use Rattle.lambda_box.proofs.Families.{has_map}
 use Rattle.lambda_box.proofs.Families.{of_has_map, distinct_mapped}
+use Rattle.lambda_box.proofs.FormKept.{fix_bodies_substituted}
 
 -- box or a variable
 data IsTiny : BoxTerm → Type 0 where
@@ -175,17 +176,6 @@ form_tiny : (Fs : List BoxFamily) {t : BoxTerm} → IsTiny t → HasBoxForm Fs t
 form_tiny Fs tiny_box = (tt, tt)
 form_tiny Fs tiny_rel = tt
 
-fix_body_put : {r : ℕ} {t : BoxTerm} (s : ℕ → BoxTerm) → IsFixBody r t → IsFixBody r (substitute s t)
-fix_body_put s boxed = boxed
-fix_body_put s last = last
-fix_body_put s (more h) = more (fix_body_put (overs 1 s) h)
-
-fix_bodies_put : (n : ℕ) (rs : List ℕ) (ts : BoxTerms) (s : ℕ → BoxTerm) → AreFixBodies n rs ts → AreFixBodies n rs (substitute_terms s ts)
-fix_bodies_put n [] Done s h = tt
-fix_bodies_put n [] (Next m t ts) s h = elim h [ ]
-fix_bodies_put n (r ∷ rs) Done s h = elim h [ ]
-fix_bodies_put n (r ∷ rs) (Next m t ts) s h = (h.0, fix_body_put (overs m s) h.1, fix_bodies_put n rs ts s h.2)
-
 module _ (Fs : List BoxFamily) where
   mutual
     ordinary_put : (t : BoxTerm) (s : ℕ → BoxTerm) → AreTiny s → IsOrdinary Fs t → IsOrdinary Fs (substitute s t)
@@ -213,7 +203,7 @@ module _ (Fs : List BoxFamily) where
     form_put (BConst k) s h g = (tt, tt)
     form_put (BConstruct f c) s h g = (g.0, tt)
     form_put (BCase f t bs) s h g = let q = g.0 in ((q.0, q.1, q.2, binders_substituted bs s ∙ q.3), (form_put t s h g.1.0, (form_put_terms bs s h g.1.1.0, tt)))
-    form_put (BFix i rargs bodies) s h g = ((g.0.0, fix_bodies_put (length rargs) rargs bodies s g.0.1), (form_put_terms bodies s h g.1.0, tt))
+    form_put (BFix i rargs bodies) s h g = ((g.0.0, fix_bodies_substituted (length rargs) rargs bodies s g.0.1), (form_put_terms bodies s h g.1.0, tt))
 
     form_put_terms : (ts : BoxTerms) (s : ℕ → BoxTerm) → AreTiny s → HasBoxFormTerms Fs ts → HasBoxFormTerms Fs (substitute_terms s ts)
     form_put_terms Done s h g = tt

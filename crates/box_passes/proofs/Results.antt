@@ -1,12 +1,9 @@
 -- What evaluation gives evaluates to itself, and to nothing else.
-use Rattle.std.proofs.Common.{◌≡◌, ℕ, length, Some, refl, sym, ap, ◌∙◌, subst, arith}
-use Rattle.std.specs.Prelude.{slice_get}
+use Rattle.std.proofs.Common.{◌≡◌, ℕ, refl, sym, subst}
 use Rattle.box_terms.specs.BoxSyntax.{BoxTerm, BApp}
 use Rattle.lambda_box.specs.BoxProgram.{BoxProgram}
-use Rattle.lambda_box.specs.BoxEvaluation.{IsBoxValue, box_is, BoxTakesMore, constructor, fixpoint, BoxUnfolds, unfolds, BoxEvaluates, value, constant, let_in, beta, box_app, extend, unfold_fix, enter, enter_only}
-use Rattle.lambda_box.proofs.Spines.{constructor_head, fix_head, fix_arguments, one_item}
-use Rattle.box_passes.proofs.Selves.{index_of, rargs_of, no_fix}
-use Rattle.box_passes.proofs.Opening.{lambda_takes_none, box_takes_none}
+use Rattle.lambda_box.specs.BoxEvaluation.{IsBoxValue, box_is, BoxTakesMore, BoxEvaluates, value, constant, let_in, beta, box_app, extend, unfold_fix, enter, enter_only}
+use Rattle.lambda_box.proofs.Determined.{more_or_unfolds, lambda_takes_no_more, box_takes_no_more}
 
 pub data IsResult (P : BoxProgram) : BoxTerm → Type 0 where
   result_value : {v : BoxTerm} → IsBoxValue v → IsResult P v
@@ -31,15 +28,6 @@ pub itself : {P : BoxProgram} {w : BoxTerm} → IsResult P w → Itself P w
 itself (result_value i) = record { nodes = 1; evaluates = value i }
 itself (result_more h g m) = let a = itself h in let b = itself g in record { nodes = _; evaluates = extend a.evaluates b.evaluates m }
 
--- what takes more doesn't unfold
-takes_or_unfolds : {P : BoxProgram} {g v u : BoxTerm} → BoxTakesMore P g → BoxUnfolds g v u → ⊥
-takes_or_unfolds (constructor f c ys k at' lt e') (unfolds i rargs bodies xs r l b e) = no_fix (sym (constructor_head ys e') ∙ fix_head xs e)
-takes_or_unfolds (fixpoint i' rargs' bodies' ys {rarg = q} at' lt e') (unfolds i rargs bodies xs {rarg = r'} r l b e) =
-    let same = sym (fix_head ys e') ∙ fix_head xs e in
-    let both : Some q ≡ Some r' = sym at' ∙ ap (λ t. slice_get (rargs_of t) (index_of t)) same ∙ r in
-    let count = ap length (sym (fix_arguments i' rargs' bodies' ys e') ∙ fix_arguments i rargs bodies xs e) in
-    omega (arith, one_item both, count, lt, l)
-
 pub same : {P : BoxProgram} {w u : BoxTerm} {n m : ℕ} → IsResult P w → BoxEvaluates P w u n m → u ≡ w
 same (result_value i) (value j) = refl
 same (result_value i) (constant k d) = elim i [ ]
@@ -51,7 +39,7 @@ same (result_value i) (unfold_fix d1 d2 u d3) = elim i [ ]
 same (result_value i) (enter d1 c at d2) = elim i [ ]
 same (result_value i) (enter_only F p d1 d2) = elim i [ ]
 same (result_more h g m) (value j) = elim j [ ]
-same {P} (result_more h g m) (beta d1 d2 d3) = absurd (lambda_takes_none (subst (λ t. BoxTakesMore P t) (sym (same h d1)) m))
-same {P} (result_more h g m) (box_app d1 d2) = absurd (box_takes_none (subst (λ t. BoxTakesMore P t) (sym (same h d1)) m))
+same {P} (result_more h g m) (beta d1 d2 d3) = absurd (lambda_takes_no_more (subst (λ t. BoxTakesMore P t) (sym (same h d1)) m))
+same {P} (result_more h g m) (box_app d1 d2) = absurd (box_takes_no_more (subst (λ t. BoxTakesMore P t) (sym (same h d1)) m))
 same (result_more h g m) (extend d1 d2 m') = λ i. BApp (same h d1 i) (same g d2 i)
-same {P} (result_more h g m) (unfold_fix d1 d2 u d3) = absurd (takes_or_unfolds (subst (λ t. BoxTakesMore P t) (sym (same h d1)) m) u)
+same {P} (result_more h g m) (unfold_fix d1 d2 u d3) = absurd (more_or_unfolds (subst (λ t. BoxTakesMore P t) (sym (same h d1)) m) u)

@@ -16,8 +16,8 @@ use Rattle.lambda_box.specs.DataTerms.{evaluable, AreEvaluable, no_evaluable, on
 use Rattle.lambda_box.specs.OrdinaryForm.{family_of}
 use Rattle.box_passes.specs.Saturate.{innermost, lambdas, constructor_function, saturate_counted, saturate_arguments, saturate_family, saturate_applied, saturate_terms, saturate_term, saturate_constant, without_parameters, saturate_program}
 use Rattle.box_passes.specs.SaturateLaws.{SaturateKeeps, SaturatedForm}
-use Rattle.lambda_box.proofs.Naming.{ordered_body}
-use Rattle.lambda_box.proofs.Spines.{closed_apply}
+use Rattle.lambda_box.proofs.Naming.{ordered_body, bodies_closed}
+use Rattle.lambda_box.proofs.Spines.{closed_apply, apply_append}
 use Rattle.box_passes.proofs.Filling.{drop_first}
 use Rattle.lambda_box.proofs.Families.{unique_family, family_found, has_map}
 use Rattle.box_passes.proofs.Saturating.{slice_there}
@@ -160,17 +160,13 @@ module _ (P : BoxProgram) (ok : IsBoxProgram P) where
   closed_both [] ys h g = g
   closed_both (x ∷ xs) ys h g = (h.0, closed_both xs ys h.1 g)
 
-  apply_both : (f : BoxTerm) (xs ys : List BoxTerm) → box_apply f (xs ++ ys) ≡ box_apply (box_apply f xs) ys
-  apply_both f [] ys = refl
-  apply_both f (x ∷ xs) ys = apply_both (BApp f x) xs ys
-
   bared_term : {f : FamilyId} {c : ℕ} {w : BoxTerm} {qs xs : List BoxTerm} {ds : Data} → IsBoxConstructor P f c w qs xs → AreEvaluable P qs → BaredFields xs ds → Bared w ((c, length xs) ∷ ds)
   bared_term {f} {c} {w} {qs} {xs} {ds} (is_box_constructor {F = F} {n = n} kept p at lq lx e) es fs =
       let S = saturate_term P.families in
       let out = ap S e ∙ saturated_constructor c qs xs kept at lq lx in
       let count : 0 + length qs + length xs ≡ F.params + n = omega (arith, lq, lx) in
       let args = fields_sat (0 + length qs) (omega (arith, lq)) (params_sat 0 qs (omega (arith, lq)) args_none) fs.sat in
-      let whole = e ∙ apply_both (BConstruct f c) qs xs in
+      let whole = e ∙ apply_append (BConstruct f c) qs xs in
       let sat = subst (λ t. Sat P Q t (box_apply (BConstruct f c) (map S xs))) (sym whole) (sat_full kept at count args) in
       let size = each_length S xs in
       let term = subst (λ k. DataTerm Q (S w) ((c, k) ∷ ds)) size (data_term (is_box_constructor (has_map without_parameters kept.0, kept.1) p at refl (size ∙ lx) out) no_evaluable fs.is) in
@@ -199,12 +195,6 @@ module _ (P : BoxProgram) (ok : IsBoxProgram P) where
   bared_terms no_data = record { sat = sat_none; closed = tt; closed' = tt; is = no_data }
   bared_terms (more_data h hs) = let a = bared h in let r = bared_terms hs in record { sat = sat_one a.sat r.sat; closed = (a.closed, r.closed); closed' = (a.closed', r.closed'); is = more_data a.is r.is }
 
-  closed_constant : (k : Name) (b : BoxTerm) → KeepsBoxConstant P k b → Closed 0 b
-  closed_constant k b at = (ordered_body P.families P.constants ok.constants (record { name = k; body = b }) at).closed
-
-  closed_saturated : (k : Name) (b : BoxTerm) → KeepsBoxConstant Q k b → Closed 0 b
-  closed_saturated k b at = (ordered_body Q.families Q.constants (saturated_form P ok).constants (record { name = k; body = b }) at).closed
-
   sat_constants : (k : Name) (b : BoxTerm) → KeepsBoxConstant P k b → (b' : BoxTerm) × KeepsBoxConstant Q k b' × Sat P Q b b'
   sat_constants k b at = (saturate_term P.families b, has_map (saturate_constant P.families) at, sat_applied P Q (unique_family P ok) b (ordered_body P.families P.constants ok.constants (record { name = k; body = b }) at).form sat_none)
 
@@ -218,8 +208,8 @@ saturate_keeps P ok us args terms w d n m ev r =
     let main = sat_applied P Q (unique_family P ok) P.main ok.main.form sat_none in
     let cl = closed_apply us P.main ok.main.closed a.closed in
     let cl' = closed_apply (map (saturate_term P.families) us) Q.main (saturated_form P ok).main.closed a.closed' in
-    let k = keeps P Q (closed_constant P ok) (closed_saturated P ok) (sat_constants P ok) (sat_families P ok) (unique_family P ok) ev (sat_apply P Q a.sat main) cl cl' in
-    (a.is, record { w = k.w'; nodes = k.n; matches = k.m; evaluates = k.ev; reads = sat_reads P Q (closed_constant P ok) (closed_saturated P ok) (sat_constants P ok) (sat_families P ok) (unique_family P ok) (result_of k.ev) k.is r })
+    let k = keeps P Q (bodies_closed P ok) (bodies_closed Q (saturated_form P ok)) (sat_constants P ok) (sat_families P ok) (unique_family P ok) ev (sat_apply P Q a.sat main) cl cl' in
+    (a.is, record { w = k.w'; nodes = k.n; matches = k.m; evaluates = k.ev; reads = sat_reads P Q (bodies_closed P ok) (bodies_closed Q (saturated_form P ok)) (sat_constants P ok) (sat_families P ok) (unique_family P ok) (result_of k.ev) k.is r })
 
 pub saturated_has_form : SaturatedForm
 saturated_has_form P ok = (saturated_form P ok, saturated_whole P ok)

@@ -1,5 +1,6 @@
 -- The relation between terms before and after saturation, by substitution on both sides.
 use Rattle.std.proofs.Common.{◌≡◌, ℕ, zero, suc, ◌+◌, ◌-◌, ◌<◌, ◌≤◌, List, [], ◌∷◌, ◌++◌, length, Some, refl, sym, ap, ◌∙◌, subst, arith, length-append}
+use Rattle.std.proofs.lemmas.Option.{same_Some}
 use Rattle.std.specs.Prelude.{slice_get}
 use Rattle.trees.specs.Tree.{Rel, Done, Next, term_at}
 use Rattle.trees.specs.Parallel.{ups, rename, over, overs, first, put_all, substitute, substitute_terms, rename_terms}
@@ -10,7 +11,7 @@ use Rattle.pc_terms.specs.declared.leaf.FamilyId.{FamilyId}
 use Rattle.box_terms.specs.BoxSyntax.{BoxTerm, BoxTerms, Box, BLambda, BLetIn, BApp, BConst, BConstruct, BCase, BFix}
 use Rattle.lambda_box.specs.BoxProgram.{BoxFamily, BoxProgram, KeepsBoxFamily, box_apply, boxes, box_fixpoints}
 use Rattle.box_passes.specs.Saturate.{innermost, lambdas}
-use Rattle.lambda_box.proofs.Spines.{head_of, arguments, one_item}
+use Rattle.lambda_box.proofs.Spines.{head_of, arguments}
 use Rattle.box_passes.proofs.Standing.{rename_whole}
 use Rattle.box_passes.proofs.Selves.{one_more}
 use Rattle.box_passes.proofs.Results.{IsResult}
@@ -136,7 +137,7 @@ module _ (P Q : BoxProgram) where
 
   pub sat_at : {ts ts' : BoxTerms} {n : ℕ} {t : BoxTerm} (i : ℕ) → SatTerms P Q ts ts' → term_at ts i ≡ Some (n, t) → SatAt ts' i n t
   sat_at i sat_done e = absurd (cc)
-  sat_at {n = n} {t = t} zero (sat_next {n = m} {t = u} {t' = u'} h hs) e = let p = one_item e in record { t' = u'; at = ap (λ q. Some (q.0, u')) p; is = subst (λ q. Sat P Q q.1 u') p h }
+  sat_at {n = n} {t = t} zero (sat_next {n = m} {t = u} {t' = u'} h hs) e = let p = same_Some _ _ e in record { t' = u'; at = ap (λ q. Some (q.0, u')) p; is = subst (λ q. Sat P Q q.1 u') p h }
   sat_at (suc i) (sat_next h hs) e = let r = sat_at i hs e in record { t' = r.t'; at = r.at; is = r.is }
 
   pub sat_fixpoints : (i n : ℕ) (rargs : List ℕ) {bs bs' : BoxTerms} → SatTerms P Q bs bs' → SatList (box_fixpoints i n rargs bs) (box_fixpoints i n rargs bs')

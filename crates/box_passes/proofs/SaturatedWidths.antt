@@ -99,7 +99,7 @@ saturated_widths P ok v c run =
 
 -- so it is of main applied to values that are data, but for a word of each of them
 
-held_count : {vs : ClosureValues} {args : List Data} → ValuesHold vs args → size vs ≡ length args
+pub held_count : {vs : ClosureValues} {args : List Data} → ValuesHold vs args → size vs ≡ length args
 held_count hold_none = refl
 held_count (hold_last {d = d} {ds = ds} hs r) = omega (arith, length-append ds (d ∷ []), held_count hs)
 

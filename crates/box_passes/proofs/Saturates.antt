@@ -15,11 +15,12 @@ use Rattle.lambda_box.specs.BoxProgram.{BoxFamily, BoxProgram, KeepsBoxConstant,
 use Rattle.lambda_box.specs.BoxEvaluation.{box_is, lambda_is, construct_is, fix_is, IsBoxConstructor, is_box_constructor, BoxTakesMore, constructor, fixpoint, box_unfolded, BoxUnfolds, unfolds, BoxEvaluates, value, constant, let_in, beta, box_app, extend, unfold_fix, enter, enter_only}
 use Rattle.lambda_box.specs.BoxData.{Data, BoxReads, BoxReadsAll, box_reads, no_box_field, box_field}
 use Rattle.box_passes.specs.Saturate.{innermost, lambdas}
-use Rattle.lambda_box.proofs.Spines.{head_of, arguments, arguments_before, constructor_head, constructor_arguments, one_item, closed_put, closed_put_all, of_closed_apply, of_closed_append, closed_term_at, closed_evaluates, closed_unfolds, closed_boxes, boxes_number}
+use Rattle.lambda_box.proofs.Spines.{head_of, arguments, arguments_before, constructor_head, constructor_arguments, closed_put, closed_put_all, of_closed_apply, of_closed_append, closed_term_at, closed_evaluates, closed_unfolds, closed_boxes, boxes_number, construct_not_fix}
+use Rattle.lambda_box.proofs.Determined.{lambda_takes_no_more}
 use Rattle.box_passes.proofs.Standing.{rename_whole}
-use Rattle.box_passes.proofs.Selves.{one_more, no_fix, no_lambda, no_box, construct_not_unfolded}
-use Rattle.box_passes.proofs.Opening.{apply_last, lambda_takes_none}
-use Rattle.box_passes.proofs.Follows.{family_name, constructor_number}
+use Rattle.box_passes.proofs.Selves.{one_more, no_lambda, no_box, construct_not_unfolded}
+use Rattle.box_passes.proofs.Opening.{apply_last}
+use Rattle.box_passes.proofs.Follows.{same_counts}
 use Rattle.box_passes.proofs.Filling.{drop_first, drop_before}
 use Rattle.box_passes.proofs.Keeping.{drop_everything}
 use Rattle.box_passes.proofs.Results.{IsResult, result_value, result_more, result_of, itself, same}
@@ -89,13 +90,6 @@ pub record SatFamily (Q : BoxProgram) (f : FamilyId) (F : BoxFamily) : Type 0 wh
 module _ (P Q : BoxProgram) (closed : (k : Name) (b : BoxTerm) → KeepsBoxConstant P k b → Closed 0 b) (closed' : (k : Name) (b : BoxTerm) → KeepsBoxConstant Q k b → Closed 0 b)
     (constants : (k : Name) (b : BoxTerm) → KeepsBoxConstant P k b → (b' : BoxTerm) × KeepsBoxConstant Q k b' × Sat P Q b b') (families : (f : FamilyId) (F : BoxFamily) → KeepsBoxFamily P f F → SatFamily Q f F)
     (unique : (f : FamilyId) (F G : BoxFamily) → KeepsBoxFamily P f F → KeepsBoxFamily P f G → F ≡ G) where
-  counts_same : {f g : FamilyId} {c d n m : ℕ} {F G : BoxFamily} → BConstruct f c ≡ BConstruct g d → KeepsBoxFamily P f F → slice_get F.args c ≡ Some n → KeepsBoxFamily P g G → slice_get G.args d ≡ Some m → (F.params ≡ G.params) × (n ≡ m)
-  counts_same {f} {g} {c} {d} {F = F} {G = G} e k at l at' =
-      let fg : f ≡ g = ap (λ t. family_name t f) e in
-      let FG = unique g F G (subst (λ h. KeepsBoxFamily P h F) fg k) l in
-      let cd : c ≡ d = ap constructor_number e in
-      (ap (λ H. H.params) FG, one_item (sym at ∙ ap (λ H. slice_get H.args c) FG ∙ ap (slice_get G.args) cd ∙ at'))
-
   -- in the saturated program a constructor with arguments missing takes more
   takes_argument : {f : FamilyId} {c n : ℕ} {F : BoxFamily} {t : BoxTerm} → KeepsBoxFamily P f F → slice_get F.args c ≡ Some n → head_of t ≡ BConstruct f c → length (arguments t []) < n → BoxTakesMore Q t
   takes_argument {f} {c} {n} {F} {t} keeps at e l =
@@ -146,11 +140,11 @@ module _ (P Q : BoxProgram) (closed : (k : Name) (b : BoxTerm) → KeepsBoxConst
 
   waiting_of : {g g' : BoxTerm} {f : FamilyId} {c n : ℕ} {F : BoxFamily} → Sat P Q g g' → IsResult Q g' → KeepsBoxFamily P f F → slice_get F.args c ≡ Some n → head_of g ≡ BConstruct f c → length (arguments g []) < F.params + n → WaitingOf g g'
   waiting_of (sat_waits m F at z cl cl' h e) r keeps at' head l = record { f = _; c = _; n = _; j = _; m = m; F = _; vs = _; keeps = F; at = at; count = z; cl = cl; cl' = cl'; waits = h; is = e }
-  waiting_of (sat_full F at z h) r keeps at' head l = let s = counts_same (sym head ∙ args_is P Q h) keeps at' F at in absurd (omega (arith, args_count P Q h, s.0, s.1))
+  waiting_of (sat_full F at z h) r keeps at' head l = let s = same_counts P unique (sym head ∙ args_is P Q h) keeps at' F at in absurd (omega (arith, args_count P Q h, s.0, s.1))
   waiting_of (sat_app h k) (result_value i) keeps at' head l = elim i [ ]
   waiting_of (sat_app {f = f} {a = a} h k) (result_more r ra m) keeps at' head l =
       let w = waiting_of h r keeps at' head (omega (arith, one_more f a)) in
-      absurd (lambda_takes_none (subst (λ t. BoxTakesMore Q t) w.is m))
+      absurd (lambda_takes_no_more (subst (λ t. BoxTakesMore Q t) w.is m))
   waiting_of sat_rel r keeps at' head l = absurd (cc)
   waiting_of sat_box r keeps at' head l = absurd (cc)
   waiting_of (sat_lambda h) r keeps at' head l = absurd (cc)
@@ -212,7 +206,7 @@ module _ (P Q : BoxProgram) (closed : (k : Name) (b : BoxTerm) → KeepsBoxConst
       full : {g : FamilyId} {d k j : ℕ} {G : BoxFamily} → KeepsBoxFamily P g G → slice_get G.args d ≡ Some k → j ≡ G.params + k → SatArgs P Q g d G.params j v v' → FullOf f c v' xs
       full {G = G} keeps' at' z a =
           let e1 = sym (args_is P Q a) ∙ head in
-          let s = counts_same e1 keeps' at' keeps at in
+          let s = same_counts P unique e1 keeps' at' keeps at in
           let H = families f F keeps in
           let list = subst (λ l. SatList P Q l (arguments v' [])) (ap (drop G.params) args ∙ drop_first G.params qs xs (omega (arith, lq, s.0))) (args_list a) in
           record {
@@ -223,7 +217,7 @@ module _ (P Q : BoxProgram) (closed : (k : Name) (b : BoxTerm) → KeepsBoxConst
 
       waits_not : (m : ℕ) {g : FamilyId} {d k j : ℕ} {G : BoxFamily} {vs : List BoxTerm} → KeepsBoxFamily P g G → slice_get G.args d ≡ Some k → j + suc m ≡ G.params + k → SatWaits P Q g d G.params j v vs → ⊥
       waits_not m keeps' at' z a =
-          let s = counts_same (sym (waits_is P Q a) ∙ head) keeps' at' keeps at in
+          let s = same_counts P unique (sym (waits_is P Q a) ∙ head) keeps' at' keeps at in
           omega (arith, waits_count P Q a, many, s.0, s.1)
 
       app_not : {g a : BoxTerm} {g' a' : BoxTerm} → BApp g a ≡ v → Sat P Q g g' → IsResult Q (BApp g' a') → ⊥
@@ -231,7 +225,7 @@ module _ (P Q : BoxProgram) (closed : (k : Name) (b : BoxTerm) → KeepsBoxConst
       app_not {g} {a} q h (result_more r ra m) =
           let many' : length (arguments (BApp g a) []) ≡ F.params + n = ap (λ t. length (arguments t [])) q ∙ many in
           let w = waiting_of h r keeps at (ap head_of q ∙ head) (omega (arith, one_more g a, many')) in
-          lambda_takes_none (subst (λ t. BoxTakesMore Q t) w.is m)
+          lambda_takes_no_more (subst (λ t. BoxTakesMore Q t) w.is m)
 
       go : ConstructSat v v' → IsResult Q v' → FullOf f c v' xs
       go (full_sat keeps' at' z a) r = full keeps' at' z a
@@ -257,7 +251,7 @@ module _ (P Q : BoxProgram) (closed : (k : Name) (b : BoxTerm) → KeepsBoxConst
     fix_is_head : (i : ℕ) (rargs : List ℕ) (bs : BoxTerms) → head_of t ≡ BFix i rargs bs → IsFixHead t
 
   not_construct : {t : BoxTerm} {f : FamilyId} {c : ℕ} → IsFixHead t → head_of t ≡ BConstruct f c → ⊥
-  not_construct (fix_is_head i rargs bs e) g = no_fix (sym g ∙ e)
+  not_construct (fix_is_head i rargs bs e) g = construct_not_fix (sym g ∙ e)
 
   of_sat_apply : {f t : BoxTerm} (xs : List BoxTerm) → IsFixHead f → Sat P Q (box_apply f xs) t → AppliedTo f xs t
   of_sat_apply {t = t} [] q h = record { f' = t; xs' = []; head = h; args = sat_none; is = refl }
@@ -265,8 +259,8 @@ module _ (P Q : BoxProgram) (closed : (k : Name) (b : BoxTerm) → KeepsBoxConst
     where
       go : {u : BoxTerm} {ys : List BoxTerm} → Sat P Q (BApp f x) u → SatList P Q xs ys → t ≡ box_apply u ys → AppliedTo f (x ∷ xs) t
       go {ys = ys} (sat_app {f' = f'} {a' = a'} h g) gs q = record { f' = f'; xs' = a' ∷ ys; head = h; args = sat_one g gs; is = q }
-      go (sat_full F at z h) gs q = absurd (no_fix (sym (args_is P Q h) ∙ e))
-      go (sat_waits m F at z cl cl' h e') gs q = absurd (no_fix (sym (waits_is P Q h) ∙ e))
+      go (sat_full F at z h) gs q = absurd (construct_not_fix (sym (args_is P Q h) ∙ e))
+      go (sat_waits m F at z cl cl' h e') gs q = absurd (construct_not_fix (sym (waits_is P Q h) ∙ e))
 
   applied_fix : {g g' : BoxTerm} (i : ℕ) (rargs : List ℕ) (bs : BoxTerms) (xs : List BoxTerm) → g ≡ box_apply (BFix i rargs bs) xs → Sat P Q g g' → AppliedFix i rargs bs xs g'
   applied_fix {g} {g'} i rargs bs xs e h =
@@ -275,8 +269,8 @@ module _ (P Q : BoxProgram) (closed : (k : Name) (b : BoxTerm) → KeepsBoxConst
     where
       go : {u : BoxTerm} {ys : List BoxTerm} → Sat P Q (BFix i rargs bs) u → SatList P Q xs ys → g' ≡ box_apply u ys → AppliedFix i rargs bs xs g'
       go {ys = ys} (sat_fix {bs' = bs'} hs) gs q = record { bs' = bs'; xs' = ys; bodies = hs; args = gs; is = q }
-      go (sat_full F at z h) gs q = absurd (no_fix (sym (args_is P Q h)))
-      go (sat_waits m F at z cl cl' h e') gs q = absurd (no_fix (sym (waits_is P Q h)))
+      go (sat_full F at z h) gs q = absurd (construct_not_fix (sym (args_is P Q h)))
+      go (sat_waits m F at z cl cl' h e') gs q = absurd (construct_not_fix (sym (waits_is P Q h)))
 
   record Unfolded (g v u : BoxTerm) : Type 0 where
     u' : BoxTerm

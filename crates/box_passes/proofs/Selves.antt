@@ -1,5 +1,6 @@
 -- A value evaluates to itself, up to what it stands for.
 use Rattle.std.proofs.Common.{◌≡◌, ℕ, suc, ◌+◌, List, [], ◌∷◌, length, Some, refl, sym, ap, ◌∙◌, arith, length-append}
+use Rattle.std.proofs.lemmas.Option.{same_Some}
 use Rattle.std.specs.Prelude.{slice_get}
 use Rattle.trees.specs.Tree.{Done}
 use Rattle.trees.specs.Closed.{Closed}
@@ -9,7 +10,7 @@ use Rattle.box_terms.specs.BoxSyntax.{BoxTerm, BoxTerms, Box, BLambda, BApp, BCo
 use Rattle.lambda_box.specs.BoxProgram.{BoxFamily, BoxProgram, Has, KeepsBoxConstant}
 use Rattle.lambda_box.specs.BoxEvaluation.{BoxEvaluates, value, beta, box_app, extend, unfold_fix, BoxUnfolds, unfolds}
 use Rattle.lambda_box.specs.ClosureEvaluation.{ClosureValue, ClosureValues, ClosureEnv}
-use Rattle.lambda_box.proofs.Spines.{head_of, arguments, arguments_before, fix_head, fix_arguments, closed_evaluates, one_item}
+use Rattle.lambda_box.proofs.Spines.{head_of, arguments, arguments_before, fix_head, fix_arguments, closed_evaluates, construct_not_fix}
 use Rattle.box_passes.proofs.Standing.{IsValue, is_box, is_lambda, is_fix, is_part, is_part_box, is_construct, is_waiting, Made, made_head, made_dropped, made_kept, Waits, waits_head, waits_more, Part, part_fix, part_app, part_box}
 
 pub one_more : (t u : BoxTerm) → length (arguments (BApp t u) []) ≡ suc (length (arguments t []))
@@ -64,9 +65,6 @@ part_is {n = n} (part_box {t = t} {u = u} h g) =
     let r = part_is h in
     record { i = r.i; rargs = r.rargs; bodies = r.bodies; head = r.head; waits = r.waits ∙ ap Some (omega (arith, one_more t u)) }
 
-pub no_fix : {f : FamilyId} {c i : ℕ} {rargs : List ℕ} {bodies : BoxTerms} → BConstruct f c ≡ BFix i rargs bodies → ⊥
-no_fix e = cc
-
 pub no_lambda : {f : FamilyId} {c : ℕ} {b : BoxTerm} → BLambda b ≡ BConstruct f c → ⊥
 no_lambda e = cc
 
@@ -78,11 +76,11 @@ fix_no_construct e = cc
 
 -- a fixpoint with some values is no constructor
 pub part_no_construct : {P : BoxProgram} {n : ℕ} {t b : BoxTerm} {e : ClosureEnv} {f : FamilyId} {c : ℕ} → Part P n t e b → head_of t ≡ BConstruct f c → ⊥
-part_no_construct p e = let q = part_is p in no_fix (sym e ∙ q.head)
+part_no_construct p e = let q = part_is p in construct_not_fix (sym e ∙ q.head)
 
 -- what unfolds is no constructor, and waits for no value before the last
 pub construct_not_unfolded : {g v u : BoxTerm} {f : FamilyId} {c : ℕ} → head_of g ≡ BConstruct f c → BoxUnfolds g v u → ⊥
-construct_not_unfolded h (unfolds i rargs bodies xs r l b e) = no_fix (sym h ∙ fix_head xs e)
+construct_not_unfolded h (unfolds i rargs bodies xs r l b e) = construct_not_fix (sym h ∙ fix_head xs e)
 
 pub unfolded_now : {P : BoxProgram} {n : ℕ} {g v u b : BoxTerm} {e : ClosureEnv} → Part P n g e b → BoxUnfolds g v u → n ≡ 0
 unfolded_now {n = n} {g = g} p (unfolds i rargs bodies xs {rarg = rarg} r l b e) =
@@ -90,7 +88,7 @@ unfolded_now {n = n} {g = g} p (unfolds i rargs bodies xs {rarg = rarg} r l b e)
     let same = sym q.head ∙ fix_head xs e in
     let both : Some (n + length (arguments g [])) ≡ Some rarg = sym q.waits ∙ ap (λ t. slice_get (rargs_of t) (index_of t)) same ∙ r in
     let count : length (arguments g []) ≡ length xs = ap length (fix_arguments i rargs bodies xs e) in
-    omega (arith, one_item both, count, l)
+    omega (arith, same_Some _ _ both, count, l)
 
 module _ (P : BoxProgram) (constants : (k : Name) (b : BoxTerm) → KeepsBoxConstant P k b → Closed 0 b) where
   mutual

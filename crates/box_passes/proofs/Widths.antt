@@ -1,6 +1,7 @@
 -- The words of the greatest block: an invariant of the values of an evaluation with environments.
 use Rattle.std.proofs.Common.{◌≡◌, ℕ, zero, suc, ◌+◌, ◌-◌, max, ◌≤◌, Bool, true, false, ◌&&◌, ◌||◌, nat_eq, List, length, Some, refl, sym, ap, ◌∙◌, subst, ⊎_elim, arith}
-use Rattle.std.proofs.lemmas.Bool.{cases_lt, ne_eqb}
+use Rattle.std.proofs.lemmas.Bool.{cases_lt, ne_eqb, or_from}
+use Rattle.std.proofs.lemmas.Option.{same_Some}
 use Rattle.std.specs.Prelude.{slice_get}
 use Rattle.trees.specs.Tree.{Rel, Done, Next, term_at}
 use Rattle.pc_terms.specs.declared.leaf.Name.{Name}
@@ -13,7 +14,6 @@ use Rattle.lambda_box.specs.ClosureEvaluation.{closure_words, Counts, constructo
 use Rattle.lambda_box.specs.ClosureEvaluation.{run_arg}
 use Rattle.lambda_box.specs.BoxData.{Data}
 use Rattle.lambda_box.specs.DataTerms.{ValuesHold, hold_none, hold_last}
-use Rattle.lambda_box.proofs.Spines.{one_item}
 
 -- the number of values in an environment
 abbrev pub plain : ClosureEnv → ℕ
@@ -39,7 +39,7 @@ any_none : (n : ℕ) (N : ℕ → Bool) → ((i : ℕ) → N i ≡ false) → an
 any_none zero N h = refl
 any_none (suc n) N h = ap (λ b. b || any_below n N) (h n) ∙ any_none n N h
 
-words_none : (e : ClosureEnv) (N : ℕ → Bool) → ((i : ℕ) → N i ≡ false) → words e N ≡ 0
+pub words_none : (e : ClosureEnv) (N : ℕ → Bool) → ((i : ℕ) → N i ≡ false) → words e N ≡ 0
 words_none Empty N h = refl
 words_none (Bind v e) N h = let a = words_none e (λ i. N (suc i)) (λ i. h (suc i)) in let b = ap one_if (h zero) in omega (arith, a, b)
 words_none (BindFix rargs bodies e) N h =
@@ -51,21 +51,17 @@ words_few {e = e} N first_none h = let z = words_none e N (λ i. h i (omega arit
 words_few N (first_one p) h = omega (arith, one_if_small (N zero), words_few (λ i. N (suc i)) p (λ i l. h (suc i) (omega arith)))
 
 -- what a constructor's function names
-both_false : (a b : Bool) → a ≡ false → b ≡ false → (a || b) ≡ false
-both_false true b e g = cc
-both_false false b e g = g
-
 spine_names : (n : ℕ) (f : BoxTerm) (i : ℕ) → n ≤ i → names f i ≡ false → names (box_apply f (innermost n)) i ≡ false
 spine_names zero f i l h = h
 spine_names (suc n) f i l h =
     let z : 0 + i ≡ i = omega arith in
     spine_names n (BApp f (Rel n)) i (omega arith)
-    (both_false (names f (0 + i)) (nat_eq n (0 + i) || false) (ap (names f) z ∙ h) (both_false (nat_eq n (0 + i)) false (ne_eqb n (0 + i) (λ e. omega (arith, e))) refl))
+    (or_from (names f (0 + i)) (nat_eq n (0 + i) || false) (ap (names f) z ∙ h) (or_from (nat_eq n (0 + i)) false (ne_eqb n (0 + i) (λ e. omega (arith, e))) refl))
 
 function_names : (m n : ℕ) (f : FamilyId) (c i : ℕ) → n ≤ m + i → names (lambdas m (box_apply (BConstruct f c) (innermost n))) i ≡ false
 function_names zero n f c i l = spine_names n (BConstruct f c) i (omega arith) refl
 function_names (suc m) n f c i l =
-    both_false (names (lambdas m (box_apply (BConstruct f c) (innermost n))) (1 + i)) false (function_names m n f c (1 + i) (omega arith)) refl
+    or_from (names (lambdas m (box_apply (BConstruct f c) (innermost n))) (1 + i)) false (function_names m n f c (1 + i) (omega arith)) refl
 
 mutual
   -- the term has no place under more than d binders, but in the functions of constructors, which have at most A arguments
@@ -180,7 +176,7 @@ module _ (D A : ℕ) where
 
   fits_at : {ts : BoxTerms} {d n : ℕ} {t : BoxTerm} (i : ℕ) → FitsTerms A d ts → term_at ts i ≡ Some (n, t) → FitsAt d n t
   fits_at i fits_done e = absurd (cc)
-  fits_at {d = d} zero (fits_next {n = m} {t = u} e eq h hs) q = let p = one_item q in record { e = e; room = eq ∙ ap (λ x. x.0 + e) p; fits = subst (λ x. FitsTerm A e x.1) p h }
+  fits_at {d = d} zero (fits_next {n = m} {t = u} e eq h hs) q = let p = same_Some _ _ q in record { e = e; room = eq ∙ ap (λ x. x.0 + e) p; fits = subst (λ x. FitsTerm A e x.1) p h }
   fits_at (suc i) (fits_next e eq h hs) q = fits_at i hs q
 
   -- the body of a constructor's function

@@ -51,7 +51,7 @@ pub fn prop_match(alloc: Global, p: &BoxProgram) -> Result<BoxProgram, PassFault
 }
 
 /// The constants without their matches on propositional families, in the same order. Only `Memory`.
-#[tactic(auto, using(crate::proofs::Maps::reverse_map, std::proofs::lemmas::Grind::common_steps))]
+#[tactic(auto, using(box_terms::proofs::Items::reverse_map, std::proofs::lemmas::Grind::common_steps))]
 fn dropped_constants(
     alloc: Global,
     fs: &BoxFamilies,

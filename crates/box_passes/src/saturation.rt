@@ -61,7 +61,7 @@ pub fn saturate(alloc: Global, p: &BoxProgram) -> Result<BoxProgram, PassFault>
 }
 
 /// The constants saturated, in the same order. `TooDeep` only where one is over the depth limit.
-#[tactic(auto, using(crate::proofs::Maps::reverse_map, crate::proofs::Heading::shallow_laws, std::proofs::lemmas::Grind::common_steps))]
+#[tactic(auto, using(box_terms::proofs::Items::reverse_map, crate::proofs::Heading::shallow_laws, std::proofs::lemmas::Grind::common_steps))]
 fn saturated_constants(
     alloc: Global,
     fs: &BoxFamilies,

@@ -2,6 +2,7 @@
 use Rattle.std.proofs.Common.{◌≡◌, ℕ, suc, ◌+◌, ◌*◌, ◌≤◌, List, length, Bool, true, false, Option, Some, None, ◌⊎◌, inl, inr, refl, sym, ap, ◌∙◌, subst, arith, le-leb}
 use Rattle.std.specs.Prelude.{slice_get, ◌&&◌, if◌then◌else◌}
 use Rattle.std.specs.Option.{option_and_then}
+use Rattle.std.proofs.lemmas.Option.{same_Some}
 use Rattle.box_terms.specs.BoxSyntax.{BoxTerm}
 use Rattle.lambda_box.specs.BoxProgram.{BoxProgram, box_apply}
 use Rattle.lambda_box.specs.BoxData.{Data}
@@ -36,7 +37,6 @@ use Rattle.wasm_core.specs.HostStore.{start_in, start_at_in, main_start_in}
 use Rattle.wasm_core.specs.Answer.{Answers, Exhausted, exhausted, IsAtEnd}
 use Rattle.wasm_core.specs.RunTree.{Fate, goes_on, ended, ran_out}
 use Rattle.wasm_core.specs.WordData.{DataNodes}
-use Rattle.wasm_core.proofs.Small.{inj}
 use Rattle.wasm_emit.specs.CallLaws.{IsHosted, hosted}
 use Rattle.wasm_emit.specs.CallModule.{call_globals, call_exports}
 use Rattle.known_calls.specs.KnownModule.{worker_type}
@@ -190,7 +190,7 @@ pub call_status_tells : CallStatusTells
 call_status_tells P args pages s small h first start k t r =
     let n = length args in
     let at = start_in s (record { type = type_main; body = call_function (passed P) n }) in
-    let same : first ≡ at = inj (sym start ∙ call_starts (passed P) n pages s) in
+    let same : first ≡ at = same_Some _ _ (sym start ∙ call_starts (passed P) n pages s) in
     calls_tell (passed P) n pages s k t small (omega (arith, h.few, small)) (ap (λ gs. slice_get gs 1) h.globals) (subst (λ (f : State). Reach (call_module_for P n pages) k f t) same r)
 
 -- so it is by more words

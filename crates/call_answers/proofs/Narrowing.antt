@@ -1,5 +1,6 @@
 -- A closed term gives the same in the empty environment as in any other, with the same counts: what stands past its variables isn't looked at.
 use Rattle.std.proofs.Common.{◌≡◌, ℕ, zero, suc, ◌+◌, ◌≤◌, Bool, false, ◌&&◌, ◌||◌, List, ◌∷◌, length, Some, refl, sym, ap, ◌∙◌, subst, arith}
+use Rattle.std.proofs.lemmas.Bool.{or_from, and_right}
 use Rattle.trees.specs.Tree.{Rel}
 use Rattle.trees.specs.Closed.{Closed, ClosedTerms}
 use Rattle.trees.proofs.Bounds.{closed_at}
@@ -12,7 +13,8 @@ use Rattle.lambda_box.specs.ClosureEvaluation.{names, names_terms, ClosureValue,
 use Rattle.lambda_box.specs.ClosureEvaluation.{ClosureRun, run_box, run_value, run_definition, run_lambda, run_fix, run_constant, run_let, run_app, run_box_app, run_fix_app, run_fix_box, run_construct, run_match, run_only, RunArgs, run_head, run_arg, ValueReads, value_reads, ValuesRead, no_values, and_then}
 use Rattle.lambda_box.proofs.Spines.{closed_term_at}
 use Rattle.box_passes.proofs.Filling.{box_values_size}
-use Rattle.shrink_passes.proofs.Following.{neither, neither_and, names_past, names_past_terms, words_none, span}
+use Rattle.box_passes.proofs.Widths.{words_none}
+use Rattle.shrink_passes.proofs.Following.{names_past, names_past_terms, span, span_bind}
 
 -- the second is the first without what stands past some variable; the terms in it are closed by what is left
 mutual
@@ -36,8 +38,8 @@ words_narrow (narrow_past {e = e}) N past = words_none e N (λ i. past i (omega 
 words_narrow (narrow_bind v h) N past = let a = words_narrow h (λ i. N (suc i)) (λ i l. past (suc i) (omega arith)) in omega (arith, a)
 words_narrow (narrow_bind_fix {rargs = rargs} {bodies = bodies} {e' = e'} c h) N past =
     words_narrow h (λ i. N (length rargs + i) || (any_below (length rargs) N && names_terms bodies i))
-    (λ i l. neither (N (length rargs + i)) (any_below (length rargs) N && names_terms bodies i) (past (length rargs + i) (omega arith))
-    (neither_and (any_below (length rargs) N) (names_terms bodies i) (names_past_terms (span e') bodies i c l)))
+    (λ i l. or_from (N (length rargs + i)) (any_below (length rargs) N && names_terms bodies i) (past (length rargs + i) (omega arith))
+    (and_right (any_below (length rargs) N) (names_terms bodies i) (names_past_terms (span e') bodies i c l)))
 
 -- what a variable holds
 
@@ -75,10 +77,6 @@ size_narrow (narrow_more n ns) = ap suc (size_narrow ns)
 bind_narrow : {vs ws : ClosureValues} {e e' : ClosureEnv} → NarrowsAll vs ws → NarrowsEnv e e' → NarrowsEnv (bind_all vs e) (bind_all ws e')
 bind_narrow narrow_none h = h
 bind_narrow (narrow_more n ns) h = narrow_bind n (bind_narrow ns h)
-
-span_bind : (vs : ClosureValues) (e : ClosureEnv) → span (bind_all vs e) ≡ size vs + span e
-span_bind NoValue e = omega arith
-span_bind (Then v vs) e = omega (arith, span_bind vs e)
 
 boxes_narrow : (n : ℕ) → NarrowsAll (box_values n) (box_values n)
 boxes_narrow zero = narrow_none

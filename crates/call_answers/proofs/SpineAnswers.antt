@@ -1,12 +1,11 @@
 -- Main, applied to variables that hold its arguments, gives what main gives that is applied to one argument after the other.
-use Rattle.std.proofs.Common.{◌≡◌, ℕ, zero, suc, ◌+◌, max, List, [], ◌∷◌, ◌++◌, length, Some, refl, sym, ap, ◌∙◌, subst, arith}
+use Rattle.std.proofs.Common.{◌≡◌, ℕ, zero, suc, ◌+◌, max, List, [], ◌∷◌, ◌++◌, length, Some, sym, ap, ◌∙◌, subst, arith}
+use Rattle.std.proofs.lemmas.Option.{same_Some}
 use Rattle.std.specs.Prelude.{slice_get}
 use Rattle.trees.specs.Tree.{Rel}
-use Rattle.trees.specs.Closed.{Closed}
-use Rattle.pc_terms.specs.declared.leaf.Name.{Name}
 use Rattle.pc_terms.specs.declared.leaf.FamilyId.{FamilyId}
 use Rattle.box_terms.specs.BoxSyntax.{BoxTerm, BApp}
-use Rattle.lambda_box.specs.BoxProgram.{BoxFamily, BoxProgram, KeepsBoxConstant, KeepsBoxFamily, box_apply}
+use Rattle.lambda_box.specs.BoxProgram.{BoxFamily, BoxProgram, KeepsBoxFamily, box_apply}
 use Rattle.lambda_box.specs.BoxData.{Data}
 use Rattle.lambda_box.specs.BoxForm.{IsBoxProgram}
 use Rattle.lambda_box.specs.SaturatedForm.{AreEnough, IsSaturatedAt, IsSaturated}
@@ -14,11 +13,12 @@ use Rattle.lambda_box.specs.DataTerms.{ValuesHold, hold_none, hold_last}
 use Rattle.lambda_box.specs.ClosureEvaluation.{ClosureValue, VBox, ClosureValues, Then, ClosureEnv, Empty, Bind, BindFix, bind_all, size, Held, Holds, Finds, found, later, Counts, nothing, contraction, ◌⊕◌}
 use Rattle.lambda_box.specs.ClosureEvaluation.{ClosureRun, run_value, run_app, run_box_app, run_fix_app, run_fix_box, run_construct, RunArgs, run_head, run_arg, ValueReads}
 use Rattle.lambda_box.proofs.Families.{unique_family}
-use Rattle.lambda_box.proofs.Naming.{ordered_body}
 use Rattle.lambda_box.proofs.OneRun.{runs_are_one}
-use Rattle.lambda_box.proofs.Spines.{one_item, closed_term_at}
+use Rattle.lambda_box.proofs.Spines.{closed_term_at}
+use Rattle.lambda_box.proofs.Naming.{bodies_closed}
 use Rattle.anf_convert.specs.ToAnfKeeps.{BoxAnswers, box_alone, box_applied}
 use Rattle.box_passes.specs.Saturate.{innermost}
+use Rattle.box_passes.proofs.SaturatedWidths.{held_count}
 use Rattle.call_answers.proofs.Narrowing.{Narrows, narrow_box, narrow_past, narrow_bind, narrow_bind_fix, closure_narrow, fix_narrow, box_narrow, narrowed, data_narrow, reads_narrow}
 
 -- main, applied to n variables, the last of which is variable i
@@ -65,9 +65,6 @@ fix_box_counts c =
     λ i. record { contractions = p i; matches = q i; blocks = r i; greatest = s i }
 
 module _ (P : BoxProgram) (ok : IsBoxProgram P) (full : IsSaturated P) (E : ClosureEnv) where
-  closed_bodies : (k : Name) (b : BoxTerm) → KeepsBoxConstant P k b → Closed 0 b
-  closed_bodies k b at = (ordered_body P.families P.constants ok.constants (record { name = k; body = b }) at).closed
-
   -- a saturated main is no constructor that waits for arguments
 
   enough : {f : FamilyId} {c : ℕ} {t : BoxTerm} {ws : ClosureValues} {n : Counts} (k : ℕ) → RunArgs P E f c t ws n → IsSaturatedAt P.families k t → AreEnough P.families (size ws + k) f c
@@ -90,7 +87,7 @@ module _ (P : BoxProgram) (ok : IsBoxProgram P) (full : IsSaturated P) (E : Clos
       let x = head (suc m) i r in
       let e = enough 0 x.args full.main in
       let same = unique_family P ok f e.family F (e.has, e.id) kept in
-      let args = one_item (sym e.counts ∙ ap (λ (G : BoxFamily). slice_get G.args c) same ∙ at) in
+      let args = same_Some _ _ (sym e.counts ∙ ap (λ (G : BoxFamily). slice_get G.args c) same ∙ at) in
       omega (arith, x.count, e.enough, args, l)
 
   -- main, applied to one value after the other
@@ -111,7 +108,7 @@ module _ (P : BoxProgram) (ok : IsBoxProgram P) (full : IsSaturated P) (E : Clos
         let one = runs_are_one P ok E (Rel i) u a c' nothing s (run_value at) in
         let x = before _ c r in
         let z = closure_narrow x.narrows in
-        let y = narrowed P closed_bodies (subst (λ u. ClosureRun P (Bind u e') b w d) one.0 q) (narrow_bind self z.narrows) z.under in
+        let y = narrowed P (bodies_closed P ok) (subst (λ u. ClosureRun P (Bind u e') b w d) one.0 q) (narrow_bind self z.narrows) z.under in
         let run : ClosureRun P (two x.value) (BApp (Rel 1) (Rel 0)) y.value (contraction ⊕ nothing ⊕ nothing ⊕ d) =
         run_app (subst (λ u. ClosureRun P (two x.value) (Rel 1) u nothing) z.is (run_value (later found))) (run_value found) y.run in
         record {
@@ -134,7 +131,7 @@ module _ (P : BoxProgram) (ok : IsBoxProgram P) (full : IsSaturated P) (E : Clos
         let x = before _ c r in
         let z = fix_narrow x.narrows in
         let body = closed_term_at _ bodies j (length rargs) _ z.under there in
-        let y = narrowed P closed_bodies (subst (λ u. ClosureRun P (Bind u (BindFix rargs bodies e')) b w d) one.0 q) (narrow_bind self (narrow_bind_fix z.under z.narrows)) body.0 in
+        let y = narrowed P (bodies_closed P ok) (subst (λ u. ClosureRun P (Bind u (BindFix rargs bodies e')) b w d) one.0 q) (narrow_bind self (narrow_bind_fix z.under z.narrows)) body.0 in
         let run : ClosureRun P (two x.value) (BApp (Rel 1) (Rel 0)) y.value (contraction ⊕ contraction ⊕ nothing ⊕ nothing ⊕ d) =
         run_fix_app (subst (λ u. ClosureRun P (two x.value) (Rel 1) u nothing) z.is (run_value (later found))) (run_value found) there y.run in
         record {
@@ -157,7 +154,7 @@ module _ (P : BoxProgram) (ok : IsBoxProgram P) (full : IsSaturated P) (E : Clos
 
   applied : {vs : ClosureValues} {args : List Data} → ValuesHold vs args → (i : ℕ) → ((j : ℕ) (h : Held) → Finds (bind_all vs Empty) j h → Finds E (i + j) h) → {v : ClosureValue} {c : Counts} →
       ClosureRun P E (spine P.main (size vs) i) v c → Applied vs v c
-  applied hold_none i look run = let x = narrowed P closed_bodies run (narrow_past {e = E}) ok.main.closed in record { value = x.value; answers = box_alone x.run; narrows = x.narrows }
+  applied hold_none i look run = let x = narrowed P (bodies_closed P ok) run (narrow_past {e = E}) ok.main.closed in record { value = x.value; answers = box_alone x.run; narrows = x.narrows }
   applied (hold_last {v = a} {vs = rest} hs h) i look run =
       let z : i + 0 ≡ i = omega arith in
       last (spine P.main (size rest) (suc i)) i rest a
@@ -170,20 +167,12 @@ pub record AnswersApplied (P : BoxProgram) (vs : ClosureValues) (d : Data) (c : 
   pub answers : BoxAnswers P vs value c
   pub reads : ValueReads value d
 
-pub held_size : {vs : ClosureValues} {args : List Data} → ValuesHold vs args → size vs ≡ length args
-held_size hold_none = refl
-held_size (hold_last {d = d} {ds = ds} hs h) = omega (arith, held_size hs, one_more ds d)
-  where
-    one_more : (ds : List Data) (d : Data) → length (ds ++ d ∷ []) ≡ suc (length ds)
-    one_more [] d = refl
-    one_more (e ∷ ds) d = ap suc (one_more ds d)
-
 pub answers_applied : (P : BoxProgram) → IsBoxProgram P → IsSaturated P → (vs : ClosureValues) (args : List Data) → ValuesHold vs args → (v : ClosureValue) (d : Data) (c : Counts) →
     ClosureRun P (bind_all vs Empty) (box_apply P.main (innermost (length args))) v c → ValueReads v d → AnswersApplied P vs d c
 answers_applied P ok full vs args held v d c run reads =
     let E = bind_all vs Empty in
     let n = length args in
-    let z : 0 + n ≡ size vs = omega (arith, held_size held) in
+    let z : 0 + n ≡ size vs = omega (arith, held_count held) in
     let same : box_apply P.main (innermost n) ≡ spine P.main (size vs) 0 = spine_is P.main 0 n ∙ ap (λ k. spine P.main k 0) z in
     let x = applied P ok full E held 0 (λ j h f. let z : j ≡ 0 + j = omega arith in subst (λ k. Finds E k h) z f) (subst (λ t. ClosureRun P E t v c) same run) in
     record { value = x.value; answers = x.answers; reads = reads_narrow reads x.narrows }

@@ -2,6 +2,7 @@
 use Rattle.std.proofs.Common.{◌≡◌, ℕ, ◌+◌, ◌*◌, List, length, Bool, true, false, Option, Some, None, Result, Ok, Err, refl, sym, ap, subst, ◌∙◌, arith}
 use Rattle.std.specs.Prelude.{if◌then◌else◌}
 use Rattle.std.specs.Option.{option_and_then}
+use Rattle.std.proofs.lemmas.Option.{same_Some}
 use Rattle.data_trees.specs.Preorder.{IsTree}
 use Rattle.closure_lift.specs.Lifted.{Program}
 use Rattle.wasm_core.specs.declared.entries.Entry.TheVariants.{Main}
@@ -14,12 +15,11 @@ use Rattle.wasm_core.specs.ModuleCondition.{All as Each}
 use Rattle.wasm_core.specs.Parts.{Parts}
 use Rattle.wasm_core.specs.Runs.{first_store, main_start, start, start_at, store_of}
 use Rattle.wasm_core.specs.WordData.{DataNodes}
-use Rattle.wasm_core.proofs.Small.{inj, some_of}
+use Rattle.wasm_core.proofs.Small.{some_of, map_of}
 use Rattle.wasm_core.proofs.WordsStay.{zeroed_length}
 use Rattle.known_calls.specs.KnownCalls.{module_of_call}
 use Rattle.mem_value.specs.Storing.{IsSmallData, put_arguments}
 use Rattle.mem_value.proofs.Placing.{has_stored}
-use Rattle.mem_value.proofs.Stacks.{mapped}
 use Rattle.module_run.specs.declared.answer.Answer.{Answer}
 use Rattle.module_run.specs.declared.refusal.RunRefusal.{RunRefusal}
 use Rattle.module_run.specs.declared.refusal.RunRefusal.TheVariants as refusals
@@ -38,7 +38,7 @@ StartsIn m s first o = (store_of first ≡ first_store m) × (o ≡ Some (with_s
 module _ (m : Parts) (s : Store) where
   in_function : (o : Option Func) (first : State) → option_and_then (λ g. Some (start m g)) o ≡ Some first → StartsIn m s first (option_and_then (λ g. Some (start_in s g)) o)
   in_function None first e = absurd cc
-  in_function (Some g) first e = let is : start m g ≡ first = inj e in (sym (ap store_of is), ap (λ z. Some (with_store z s)) is)
+  in_function (Some g) first e = let is : start m g ≡ first = same_Some _ _ e in (sym (ap store_of is), ap (λ z. Some (with_store z s)) is)
 
   in_export : (o : Option ℕ) (first : State) → option_and_then (λ f. start_at m f) o ≡ Some first → StartsIn m s first (option_and_then (λ f. start_at_in m s f) o)
   in_export None first e = absurd cc
@@ -67,7 +67,7 @@ module _ (P : Program) (k pages : ℕ) (args : List DataNodes) (small : Each IsS
   hosted : (at : State) → start_with M pages args ≡ Some at → Hosted at
   hosted at e =
       let (first, there, e1) = some_of (with_arguments M pages args) (main_start M) at e in
-      let (s, put, e2) = mapped (with_store first) (put_arguments M pages args (store_of first)) at e1 in
+      let (s, put, e2) = map_of (with_store first) (put_arguments M pages args (store_of first)) at e1 in
       let (own, starts) = starts_in M s first there in
       let put_there : put_arguments M pages args (first_store M) ≡ Some s = subst (λ t. put_arguments M pages args t ≡ Some s) own put in
       let sized : length (first_store M).memory ≡ 65536 * (first_store M).pages = zeroed_length 1 in
@@ -82,7 +82,7 @@ module _ (P : Program) (k pages : ℕ) (args : List DataNodes) (small : Each IsS
     from_start at e =
         let h = hosted at e in
         let r = runs.runs h.store h.holds in
-        subst (AnswersFrom M most tree) (inj (sym r.starts ∙ h.starts)) (record { bounded = r.bounded; answers = r.answers })
+        subst (AnswersFrom M most tree) (same_Some _ _ (sym r.starts ∙ h.starts)) (record { bounded = r.bounded; answers = r.answers })
 
     ends : (r : Result Answer RunRefusal) (at : State) → start_with M pages args ≡ Some at → CallEnds M pages steps args r → AnswersOrSpends most steps tree r
     ends (Err refusals.Exhausted) at e h = tt

@@ -1,17 +1,17 @@
 -- Tokens that are laid out before other parts of a text: how they are read, and where the front of the text ends.
-use Rattle.std.proofs.Common.{◌≡◌, ◌∙◌, ℕ, zero, suc, ◌+◌, ◌-◌, ◌<◌, ◌≤◌, List, [], ◌∷◌, ◌++◌, length, Bool, true, false, ◌&&◌, inl, inr, refl, sym, ap, arith, append_assoc}
+use Rattle.std.proofs.Common.{◌≡◌, ◌∙◌, ℕ, zero, suc, ◌+◌, ◌-◌, ◌<◌, ◌≤◌, List, [], ◌∷◌, ◌++◌, length, Bool, true, false, inl, inr, refl, sym, ap, arith, append_assoc}
 use Rattle.std.proofs.lemmas.Bool.{le-leb}
 use Rattle.std.proofs.lemmas.List.{length-append}
 use Rattle.sexp_reader.specs.Text.{Text, Open, Close, Atom, Stray}
-use Rattle.sexp_reader.specs.Lex.{Spanned, answer_at, is_atom_byte, nesting_after_text, token}
+use Rattle.sexp_reader.specs.Lex.{Spanned, answer_at, nesting_after_text, token}
 use Rattle.sexp_reader.specs.declared.TokenKind.{TokenKind}
 use Rattle.sexp_reader.specs.declared.TokenKind.TheVariants as kinds
-use Rattle.sexp_reader.specs.Tokenization.{Layout, BlankThen, OpenThen, CloseThen, AtomThen, BeginsNoAtom, IsLayout, Each, bytes_of, spans_of}
+use Rattle.sexp_reader.specs.Tokenization.{Layout, BlankThen, OpenThen, CloseThen, AtomThen, BeginsNoAtom, IsLayout, bytes_of, spans_of}
 use Rattle.dump_grammar.specs.Judge.{texts}
 use Rattle.dump_reader.specs.Front.{end_behind, front_end}
 use Rattle.dump_printer.specs.Layout.{laid}
 use Rattle.dump_printer.specs.Nesting.{deepest}
-use Rattle.dump_printer.proofs.Good.{IsGood, AreGood, all_bytes, and-parts, good-length, is_good}
+use Rattle.dump_printer.proofs.Good.{IsGood, AreGood, good-parts, good-length}
 use Rattle.dump_printer.proofs.Heights.{deepest-le}
 use Rattle.certified_texts.proofs.Closing.{Ends}
 
@@ -39,16 +39,6 @@ then_bytes false (Atom a ∷ ts) l = ap (λ (w : List ℕ). 32 ∷ w) (ap (λ (w
 then_bytes true (Stray ∷ ts) l = then_bytes true ts l
 then_bytes false (Stray ∷ ts) l = then_bytes false ts l
 
-all_each : (a : List ℕ) → all_bytes a ≡ true → Each (λ b. is_atom_byte b ≡ true) a
-all_each [] e = tt
-all_each (b ∷ bs) e = (let x = and-parts (is_atom_byte b) (all_bytes bs) e in (x.0, all_each bs x.1))
-
-atom_bytes : (a : List ℕ) → is_good a ≡ true → (0 < length a) × Each (λ b. is_atom_byte b ≡ true) a
-atom_bytes [] e = absurd cc
-atom_bytes (b ∷ bs) e =
-    let some : 0 < suc (length bs) = omega arith in
-    (some, all_each (b ∷ bs) (and-parts (is_atom_byte b && all_bytes bs) _ e).0)
-
 begins_none : (ts : List Text) (l : Layout) → AreGood ts → BeginsNoAtom l → BeginsNoAtom (laid_then false ts l)
 begins_none [] l h n = n
 begins_none (Open ∷ ts) l h n = tt
@@ -63,8 +53,8 @@ then_is true (Open ∷ ts) l h n i = then_is true ts l h.1 n i
 then_is false (Open ∷ ts) l h n i = (refl, then_is true ts l h.1 n i)
 then_is true (Close ∷ ts) l h n i = then_is false ts l h.1 n i
 then_is false (Close ∷ ts) l h n i = then_is false ts l h.1 n i
-then_is true (Atom a ∷ ts) l h n i = (let x = atom_bytes a h.0 in (x.0, x.1, begins_none ts l h.1 n, then_is false ts l h.1 n i))
-then_is false (Atom a ∷ ts) l h n i = (let x = atom_bytes a h.0 in (refl, (x.0, x.1, begins_none ts l h.1 n, then_is false ts l h.1 n i)))
+then_is true (Atom a ∷ ts) l h n i = (let x = good-parts a h.0 in (x.0, x.1, begins_none ts l h.1 n, then_is false ts l h.1 n i))
+then_is false (Atom a ∷ ts) l h n i = (let x = good-parts a h.0 in (refl, (x.0, x.1, begins_none ts l h.1 n, then_is false ts l h.1 n i)))
 then_is tight (Stray ∷ ts) l h n i = elim h.0 [ ]
 
 -- where the rest has no token

@@ -1,6 +1,7 @@
 -- The closures that are made for fixpoints' variables, before an operation.
 use Rattle.std.proofs.Common.{◌≡◌, ℕ, zero, suc, ◌+◌, ◌<◌, ◌≤◌, List, [], ◌∷◌, map, length, Some, Bool, true, false, refl, sym, ap, ◌∙◌, subst as transport, arith}
 use Rattle.std.proofs.lemmas.Bool.{eq-eqb, eqb-true}
+use Rattle.std.proofs.lemmas.List.{length-map}
 use Rattle.std.specs.Prelude.{get_or, nat_eq}
 use Rattle.anf_convert.specs.Anf.{def_count}
 use Rattle.anf_convert.specs.declared.program.Atom.{Atom}
@@ -43,10 +44,6 @@ grown_er g er = er_same (λ x lt. grown_word g x) er
 pub counted : {P : Program} {w : ℕ} {e : Vals} {t : Block} {v : Val} {c c' k k' b b' l l' : ℕ} → c ≡ c' → k ≡ k' → b ≡ b' → l ≡ l' → Gets P w e t v c k b l → Gets P w e t v c' k' b' l'
 counted {P} {w} {e} {t} {v} {c} {c'} {k} {k'} {b} {b'} {l} {l'} ec ek eb el h =
     transport (λ z. Gets P w e t v c' k' b' z) el (transport (λ z. Gets P w e t v c' k' z l) eb (transport (λ z. Gets P w e t v c' z b l) ek (transport (λ z. Gets P w e t v z k b l) ec h)))
-
-length_map : (f : ℕ → Atom) (xs : List ℕ) → length (map f xs) ≡ length xs
-length_map f [] = refl
-length_map f (x ∷ xs) = ap suc (length_map f xs)
 
 word_same : {x y : ℕ} → Word x ≡ Word y → x ≡ y
 word_same e = cc
@@ -132,7 +129,7 @@ module _ (P : Program) (w : ℕ) where
   one {s} {gs} {e} {v = v} fr le (give_fix {i = i} {ws = ws} is at few) er eq cov =
       let m = made_for fr le ws eq (er_words i er is at) (transport (λ z. Covers fr (depth s) (words_of z)) is cov) in
       let n = get_or gs i 0 in
-      let long = length_map (held fr) ws in
+      let long = length-map ws (held fr) in
       let made : Good (Made i ∷ fr) (VCons (VClos n m.us) le) i v = record { u = VClos n m.us; at = rw (eq-eqb i i refl) refl; is = m.is } in
       record {
         fr' = Made i ∷ fr;

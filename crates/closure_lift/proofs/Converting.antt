@@ -8,9 +8,9 @@ use Rattle.anf_convert.specs.Captured.{Outside}
 use Rattle.anf_convert.specs.Renumbering as anf
 use Rattle.anf_convert.specs.declared.program.AnfConstant.{AnfConstant}
 use Rattle.anf_convert.specs.declared.program.AnfProgram.{AnfProgram}
-use Rattle.closure_lift.specs.Lifted.{Block, Fn, Program}
+use Rattle.closure_lift.specs.Lifted.{Block, Program}
 use Rattle.closure_lift.specs.LiftedView.{functions_of}
-use Rattle.closure_lift.specs.LiftedProgram.{renumber_functions, place_in, lifted_of}
+use Rattle.closure_lift.specs.LiftedProgram.{place_in, lifted_of}
 use Rattle.closure_lift.specs.LiftedForm.{Limits}
 use Rattle.closure_lift.specs.LiftKeeps.{KeepsLifted, HasLiftedForm}
 use Rattle.closure_lift.specs.Lift.{block_functions, constants_functions, lift_block, functions_block, functions_constants, lift}
@@ -25,7 +25,7 @@ use Rattle.closure_lift.specs.declared.program.Lifted.{Lifted}
 use Rattle.closure_lift.specs.declared.program.Function.{Function}
 use Rattle.closure_lift.proofs.Backwards.{turned_step}
 use Rattle.closure_lift.proofs.CapturedLimit.{functions_few}
-use Rattle.closure_lift.proofs.Counted.{functions_length}
+use Rattle.closure_lift.proofs.Counted.{functions_length, renumbered_length}
 use Rattle.closure_lift.proofs.Follows.{lift_keeps}
 use Rattle.closure_lift.proofs.Forms.{constants_number, lift_forms}
 use Rattle.closure_lift.proofs.Going.{functions_more}
@@ -102,10 +102,6 @@ module _ (h : ℕ → ℕ) where
   blocks_capture_same most (c ∷ cs) =
       ap (λ Q. Q × BlocksCapture most (map (λ (c : AnfConstant). anf.renumber h c.body) cs)) (block_captures_same h most Outside c.body)
       ∙ ap (λ Q. BlockCaptures most Outside c.body × Q) (blocks_capture_same most cs)
-
-renumbered_length : (f : ℕ → ℕ) (fs : List Fn) → length (renumber_functions f fs) ≡ length fs
-renumbered_length f [] = refl
-renumbered_length f (x ∷ fs) = ap suc (renumbered_length f fs)
 
 named_length : (g : ℕ) (cs : List AnfConstant) → length (named_constants g cs) ≡ length cs
 named_length g [] = refl

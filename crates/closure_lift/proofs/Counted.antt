@@ -1,7 +1,8 @@
 -- How many items the lists of a lifted program have.
-use Rattle.std.proofs.Common.{◌≡◌, suc, List, [], ◌∷◌, ◌++◌, length, refl, ap}
-use Rattle.closure_lift.specs.Lifted.{many}
+use Rattle.std.proofs.Common.{◌≡◌, ℕ, suc, List, [], ◌∷◌, ◌++◌, length, refl, ap}
+use Rattle.closure_lift.specs.Lifted.{Fn, many}
 use Rattle.closure_lift.specs.LiftedView.{seen, bounds_of, branches_of, fn_of, functions_of}
+use Rattle.closure_lift.specs.LiftedProgram.{renumber_functions}
 use Rattle.closure_lift.specs.declared.program.LiftedOp.{LiftedOp}
 use Rattle.closure_lift.specs.declared.program.LiftedBranch.{LiftedBranch}
 use Rattle.closure_lift.specs.declared.program.Function.{Function}
@@ -18,10 +19,14 @@ pub functions_length : (fs : List Function) → length (functions_of fs) ≡ len
 functions_length [] = refl
 functions_length (f ∷ fs) = ap suc (functions_length fs)
 
-pub bounds_join : (xs ys : List LiftedOp) → bounds_of (xs ++ ys) ≡ bounds_of xs ++ bounds_of ys
-bounds_join [] ys = refl
-bounds_join (x ∷ xs) ys = ap (λ zs. seen x ∷ zs) (bounds_join xs ys)
+pub renumbered_length : (f : ℕ → ℕ) (fs : List Fn) → length (renumber_functions f fs) ≡ length fs
+renumbered_length f [] = refl
+renumbered_length f (x ∷ fs) = ap suc (renumbered_length f fs)
 
-pub functions_join : (xs ys : List Function) → functions_of (xs ++ ys) ≡ functions_of xs ++ functions_of ys
-functions_join [] ys = refl
-functions_join (x ∷ xs) ys = ap (λ zs. fn_of x ∷ zs) (functions_join xs ys)
+pub bounds_append : (xs ys : List LiftedOp) → bounds_of (xs ++ ys) ≡ bounds_of xs ++ bounds_of ys
+bounds_append [] ys = refl
+bounds_append (x ∷ xs) ys = ap (λ zs. seen x ∷ zs) (bounds_append xs ys)
+
+pub functions_append : (xs ys : List Function) → functions_of (xs ++ ys) ≡ functions_of xs ++ functions_of ys
+functions_append [] ys = refl
+functions_append (x ∷ xs) ys = ap (λ zs. fn_of x ∷ zs) (functions_append xs ys)

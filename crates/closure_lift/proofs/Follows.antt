@@ -1,5 +1,6 @@
 -- The lifted program follows the evaluation of the program in A-normal form.
-use Rattle.std.proofs.Common.{◌≡◌, ℕ, suc, ◌+◌, ◌<◌, ◌≤◌, List, [], ◌∷◌, map, length, Some, refl, sym, ap, ◌∙◌, subst as transport, arith}
+use Rattle.std.proofs.Common.{◌≡◌, ℕ, suc, ◌+◌, ◌<◌, ◌≤◌, List, [], ◌∷◌, length, Some, refl, sym, ap, ◌∙◌, subst as transport, arith}
+use Rattle.std.proofs.lemmas.List.{length-map}
 use Rattle.anf_convert.specs.Anf.{AnfOp, AppOp, CaseOp, AnfBlock, TailAtom, BindAtom, Bind, AnfBranches, AnfDefs, AnfProgram, def_count}
 use Rattle.anf_convert.specs.declared.program.Atom.{Atom}
 use Rattle.anf_convert.specs.declared.program.Atom.TheVariants.{Var as AVar}
@@ -20,14 +21,6 @@ some_anf e = cc
 
 not_words : {x : ℕ} {ws : List ℕ} → Word x ≡ Words ws → ⊥
 not_words e = cc
-
-pub length_map : (f : ℕ → Atom) (xs : List ℕ) → length (map f xs) ≡ length xs
-length_map f [] = refl
-length_map f (x ∷ xs) = ap suc (length_map f xs)
-
-pub length_maps : (f : Atom → Atom) (xs : List Atom) → length (map f xs) ≡ length xs
-length_maps f [] = refl
-length_maps f (x ∷ xs) = ap suc (length_maps f xs)
 
 pub holds_length : (ws : List ℕ) → length (holds_all ws) ≡ length ws
 holds_length [] = refl
@@ -190,12 +183,12 @@ module _ (Q : AnfProgram) (w : ℕ) where
         did_same (omega arith) (omega arith) (app_did b1 b2 l1 l2 g (ready P w fr le (give_more h1 (give_more h2 give_none)) er eq (two_atoms fr s f a cov)) (call_fix_box at))
     follows_op {s} (op_con {as' = as'} {b = b} {l = l} hs few) gs fr le g er eq cov p =
         let y = ready P w fr le hs er eq cov in
-        let long = length_maps (atom s y.fr') as' in
+        let long = length-map as' (atom s y.fr') in
         record { fr' = y.fr'; le' = y.le'; grown = y.grown; u = VCon _ y.us; is = vr_con y.related; c' = 0; b1 = b; b2 = 1; l1 = l; l2 = _; does = do_con (omega arith) y.all; wrap = y.wrap; le_c = omega arith; blocks = refl; words = omega arith }
     follows_op {s} (op_lam {t = t} few) gs fr le g er eq cov p =
         let cs = lam_captured s t in
         let x = capture fr le eq cs (captured_each (λ x. In (Holds x) fr) (depth s) (block_words (Plain s) t) cov) in
-        let long = length_map (held fr) cs in
+        let long = length-map cs (held fr) in
         record {
           fr' = fr;
           le' = le;
@@ -216,7 +209,7 @@ module _ (Q : AnfProgram) (w : ℕ) where
     follows_op {s} (op_fix {ds = ds} {i = i} few) gs fr le g er eq cov p =
         let cs = fix_captured s ds in
         let x = capture fr le eq cs (captured_each (λ x. In (Holds x) fr) (depth s) (defs_words (shares [] (def_count ds) s) ds) cov) in
-        let long = length_map (held fr) cs in
+        let long = length-map cs (held fr) in
         record {
           fr' = fr;
           le' = le;

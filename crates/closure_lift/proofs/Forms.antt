@@ -1,6 +1,7 @@
 -- The names of a lifted program are in scope.
 use Rattle.std.proofs.Common.{◌≡◌, ℕ, zero, suc, ◌+◌, ◌<◌, List, [], ◌∷◌, ◌++◌, map, length, Some, None, Bool, true, false, refl, sym, ap, ◌∙◌, subst, subst as transport, arith}
 use Rattle.std.proofs.lemmas.Bool.{eq-eqb}
+use Rattle.std.proofs.lemmas.List.{length-map}
 use Rattle.std.specs.Prelude.{slice_get, get_or, if◌then◌else◌}
 use Rattle.anf_convert.specs.Anf.{AnfOp, ConstOp, AppOp, ConOp, LamOp, FixOp, CaseOp, AnfBlock, TailAtom, Tail, BindAtom, Bind, AnfBranches, NoBranch, Branch, AnfDefs, NoDef, LamDef, BoxDef, def_count}
 use Rattle.anf_convert.specs.declared.program.Atom.{Atom}
@@ -16,7 +17,8 @@ use Rattle.closure_lift.proofs.Covering.{In, in_here, in_after, Covers, holds_al
 use Rattle.anf_convert.proofs.Scopes.{Each, each_split, each_map, captured_each, captured_below, depth_shares}
 use Rattle.closure_lift.proofs.Placed.{Placed, own, front, back, rest, first, def_length, block_length, then_block, main_placed}
 use Rattle.closure_lift.proofs.Closures.{entry_below}
-use Rattle.closure_lift.proofs.Follows.{one_atom, two_atoms, covers_none, holds_length, length_map, length_maps}
+use Rattle.closure_lift.proofs.Follows.{one_atom, two_atoms, covers_none, holds_length}
+use Rattle.closure_lift.proofs.Related.{words_same}
 
 -- a slot that is there has its place
 pub place_below : (k : LiftSlot) (fr : List LiftSlot) → In k fr → position k fr < length fr
@@ -37,9 +39,6 @@ pub data Known (fs : List Fn) : Scope → List ℕ → Type 0 where
 record KnownAt (fs : List Fn) (d n : ℕ) (ws : List ℕ) : Type 0 where
   takes : IsMadeWith fs n (length ws)
   below : Each (λ x. x < d) ws
-
-words_same : {xs ys : List ℕ} → Words xs ≡ Words ys → xs ≡ ys
-words_same e = cc
 
 known_words : {fs : List Fn} {s : Scope} {gs ws : List ℕ} (i : ℕ) → Known fs s gs → entry s i ≡ Words ws → KnownAt fs (depth s) (get_or gs i 0) ws
 known_words i known_nil e = absurd (no e)
@@ -128,7 +127,7 @@ module _ (fs : List Fn) (k m : ℕ) where
   var_closed {s} {gs} fr i as' next (Words ws) is known cov go after =
       let c : Covers fr (depth s) ws = transport (λ z. Covers fr (depth s) (words_of z)) is cov in
       let at = known_words i known is in
-      let long = length_map (held fr) ws in (
+      let long = length-map ws (held fr) in (
         (transport (λ z. IsMadeWith fs (get_or gs i 0) z) (sym long) at.takes, held_fit fr ws (both (depth s) ws at.below c)),
         after (Made i ∷ fr) (made_kept i fr) (λ fr' kept fits. go fr' (kept_trans (made_kept i fr) kept) (transport (λ z. AtomFits (length fr') (variable fr' i z)) (sym is) (place_below (Made i) fr' (kept.kept (Made i) (in_here (eq-eqb i i refl)))), fits)),
       )
@@ -146,9 +145,6 @@ module _ (fs : List Fn) (k m : ℕ) where
       let parts = each_split (λ x. x < depth s → In (Holds x) fr) (words_of (entry s i)) (atoms_words s as') cov in
       var_closed fr i as' next (entry s i) refl known parts.0 go (λ fr1 kept go'. closed_atoms n fr1 as' next known (kept_covers (depth s) (atoms_words s as') kept parts.1) fit.1 go')
 
-  kept_length : (f : Atom → Atom) (xs : List Atom) → length (map f xs) ≡ length xs
-  kept_length f xs = length_maps f xs
-
   -- the functions of a fixpoint
   fix_takes : (s : Scope) (gs : List ℕ) (g : ℕ) (ds : AnfDefs) (i : ℕ) → Placed (functions_op s gs g (FixOp ds i)) g fs → (j : ℕ) → j < def_count ds → IsMadeWith fs (g + j) (length (fix_captured s ds))
   fix_takes s gs g ds i p j lt =
@@ -164,13 +160,13 @@ module _ (fs : List Fn) (k m : ℕ) where
         fr) (lift_op s gs fr g op)
     op_fits n fr g (ConstOp x) known cov fit p fits = fit
     op_fits n fr g (AppOp f a) known cov fit p fits = (fits.0, fits.1.0)
-    op_fits {s} n fr g (ConOp c as') known cov fit p fits = let long = kept_length (atom s fr) as' in let pos = fit.1 in let few = fit.2 in (fit.0, omega arith, omega arith, fits)
+    op_fits {s} n fr g (ConOp c as') known cov fit p fits = let long = length-map as' (atom s fr) in let pos = fit.1 in let few = fit.2 in (fit.0, omega arith, omega arith, fits)
     op_fits {s} n fr g (LamOp b) known cov fit p fits =
         let ws = lam_captured s b in
-        (record { fn = _; at = first p; words = sym (length_map (held fr) ws) }, held_fit fr ws (captured_each (λ x. In (Holds x) fr) (depth s) (block_words (Plain s) b) cov))
+        (record { fn = _; at = first p; words = sym (length-map ws (held fr)) }, held_fit fr ws (captured_each (λ x. In (Holds x) fr) (depth s) (block_words (Plain s) b) cov))
     op_fits {s} {gs} n fr g (FixOp ds i) known cov fit p fits =
         let ws = fix_captured s ds in
-        (transport (λ z. IsMadeWith fs (g + i) z) (sym (length_map (held fr) ws)) (fix_takes s gs g ds i p i fit.0), held_fit fr ws (captured_each (λ x. In (Holds x) fr) (depth s) (defs_words (shares [] (def_count ds) s) ds) cov))
+        (transport (λ z. IsMadeWith fs (g + i) z) (sym (length-map ws (held fr))) (fix_takes s gs g ds i p i fit.0), held_fit fr ws (captured_each (λ x. In (Holds x) fr) (depth s) (defs_words (shares [] (def_count ds) s) ds) cov))
     op_fits {s} {gs} n fr g (CaseOp a bs) known cov fit p fits =
         let parts = each_split (λ x. x < depth s → In (Holds x) fr) (atom_words s a) _ cov in
         let number = many_lifted s gs fr g bs in

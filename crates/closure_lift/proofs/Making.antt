@@ -7,21 +7,12 @@ use Rattle.anf_convert.specs.declared.program.Atom.TheVariants.{Var as AVar, Box
 use Rattle.anf_convert.specs.Captured.{Scope, Words, entry}
 use Rattle.closure_lift.specs.Lifted.{OClos, RetAtom, Bound, OpBound}
 use Rattle.closure_lift.specs.Lift.{LiftSlot, held}
-use Rattle.closure_lift.specs.LiftedView.{seen, bounds_of, fn_of, functions_of}
+use Rattle.closure_lift.specs.LiftedView.{fn_of, functions_of}
 use Rattle.closure_lift.specs.FreeVariables.{all_words}
 use Rattle.closure_lift.specs.Lifting.{code_for, closure_frame, closure_code, closures_frame, closures_code, blanks}
-use Rattle.closure_lift.specs.declared.program.LiftedOp.{LiftedOp}
 use Rattle.closure_lift.specs.declared.program.Function.{Function}
 use Rattle.closure_lift.proofs.Backwards.{turned_step}
 use Rattle.closure_lift.proofs.Noting.{part_more}
-
-pub bounds_append : (xs ys : List LiftedOp) → bounds_of (xs ++ ys) ≡ bounds_of xs ++ bounds_of ys
-bounds_append [] ys = refl
-bounds_append (x ∷ xs) ys = ap (λ zs. seen x ∷ zs) (bounds_append xs ys)
-
-pub functions_append : (xs ys : List Function) → functions_of (xs ++ ys) ≡ functions_of xs ++ functions_of ys
-functions_append [] ys = refl
-functions_append (x ∷ xs) ys = ap (λ zs. fn_of x ∷ zs) (functions_append xs ys)
 
 pub functions_set : (fs : List Function) (at : ℕ) (f : Function) → functions_of (slice_set fs at f) ≡ slice_set (functions_of fs) at (fn_of f)
 functions_set [] zero f = refl

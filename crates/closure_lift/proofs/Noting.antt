@@ -1,7 +1,7 @@
 -- Names and notes of a block, of branches and of definitions, one after another.
 use Rattle.std.proofs.Common.{◌≡◌, ℕ, zero, suc, ◌+◌, ◌<◌, List, [], ◌∷◌, ◌++◌, length, drop, get_or, refl, sym, ap, ◌∙◌, arith, append_assoc, drop-cons, length-append, ◌≤◌}
 use Rattle.std.proofs.lemmas.List.{append-nil, set_at}
-use Rattle.anf_convert.specs.Anf.{AnfBlock, AnfBinding, AtomIs, OpIs, tail_of, block_of, def_count}
+use Rattle.anf_convert.specs.Anf.{AnfBlock, AnfBinding, AtomIs, OpIs, tail_of, block_of}
 use Rattle.anf_convert.specs.declared.program.Atom.{Atom}
 use Rattle.anf_convert.specs.AnfView.{seen, bindings_of, branches_of, defs_of}
 use Rattle.anf_convert.specs.declared.program.Op.{Op}
@@ -75,11 +75,6 @@ free_one n ds i d lt is = ap (λ zs. free_defs n (defs_of zs)) (next_of ds i d l
 
 pub notes_one : (n : ℕ) (ds : List AnfDef) (i : ℕ) (d : AnfDef) → i < length ds → d ≡ get_or ds i d → notes_defs n (defs_of (drop i ds)) ≡ notes_def n d ++ notes_defs n (defs_of (drop (i + 1) ds))
 notes_one n ds i d lt is = ap (λ zs. notes_defs n (defs_of zs)) (next_of ds i d lt is) ∙ def_notes_step n d (drop (i + 1) ds)
-
-pub count_defs : (ds : List AnfDef) → def_count (defs_of ds) ≡ length ds
-count_defs [] = refl
-count_defs (def.Lambda b ∷ ds) = ap suc (count_defs ds)
-count_defs (def.Box ∷ ds) = ap suc (count_defs ds)
 
 pub atoms_step : (n : ℕ) (a : Atom) (as' : List Atom) {bs : List Atom} → bs ≡ a ∷ as' → free_atoms n bs ≡ free_atom n a ++ free_atoms n as'
 atoms_step n a as' e = ap (free_atoms n) e

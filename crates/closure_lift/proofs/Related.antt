@@ -65,7 +65,7 @@ some_anf e = cc
 word_same : {x y : ℕ} → Word x ≡ Word y → x ≡ y
 word_same e = cc
 
-words_same : {xs ys : List ℕ} → Words xs ≡ Words ys → xs ≡ ys
+pub words_same : {xs ys : List ℕ} → Words xs ≡ Words ys → xs ≡ ys
 words_same e = cc
 
 -- the value of a variable with a word

@@ -1,5 +1,5 @@
 -- With other numbers for the constants, the functions of a lifted program have the other numbers, and captured words are as many.
-use Rattle.std.proofs.Common.{◌≡◌, ℕ, suc, ◌+◌, ◌<◌, List, [], ◌∷◌, ◌++◌, map, length, refl, sym, ap, ◌∙◌}
+use Rattle.std.proofs.Common.{◌≡◌, ℕ, suc, ◌+◌, ◌<◌, List, [], ◌∷◌, ◌++◌, map, length, refl, sym, ap, ap₂, ◌∙◌}
 use Rattle.anf_convert.specs.Anf.{AnfOp, ConstOp, AppOp, ConOp, LamOp, FixOp, CaseOp, AnfBlock, TailAtom, Tail, BindAtom, Bind, AnfBranches, NoBranch, Branch, AnfDefs, NoDef, LamDef, BoxDef, def_count}
 use Rattle.anf_convert.specs.Renumbering as anf
 use Rattle.anf_convert.specs.Captured.{Scope, Plain, depth, plains, shares, lam_captured, fix_captured}
@@ -20,9 +20,6 @@ module _ (f : ℕ → ℕ) where
 
   lambda_renumbered : (s : Scope) (gs ws : List ℕ) (g : ℕ) (b : AnfBlock) → lambda_function s gs ws g (anf.renumber f b) ≡ fn_renumbered (lambda_function s gs ws g b)
   lambda_renumbered s gs ws g b = ap (λ (t : Block). let x : Fn = record { captured = length ws; body = t } in x) (lift_block_renumbered f (Plain s) (0 ∷ gs) (Holds (depth s) ∷ map (λ x. Holds x) ws) g b)
-
-  two : {xs xs' ys ys' : List Fn} → xs ≡ xs' → ys ≡ ys' → xs ++ ys ≡ xs' ++ ys'
-  two e h = cc
 
   def_functions_renumbered : (s : Scope) (gs ws : List ℕ) (g : ℕ) (ds : AnfDefs) → def_functions s gs ws g (anf.renumber_defs f ds) ≡ renumber_functions f (def_functions s gs ws g ds)
   def_functions_renumbered s gs ws g NoDef = refl
@@ -48,7 +45,7 @@ module _ (f : ℕ → ℕ) where
     functions_op_renumbered s gs g (FixOp ds i) =
         ap (λ n. fix_functions s gs g n (fix_captured s (anf.renumber_defs f ds)) (anf.renumber_defs f ds)) (count_same f ds)
         ∙ ap (λ ws. fix_functions s gs g (def_count ds) ws (anf.renumber_defs f ds)) (fix_same f s ds)
-        ∙ two (def_functions_renumbered (shares (fix_captured s ds) (def_count ds) s) (numbered g (def_count ds) gs) (fix_captured s ds) (g + def_count ds) ds)
+        ∙ ap₂ ◌++◌ (def_functions_renumbered (shares (fix_captured s ds) (def_count ds) s) (numbered g (def_count ds) gs) (fix_captured s ds) (g + def_count ds) ds)
         (functions_defs_renumbered (shares (fix_captured s ds) (def_count ds) s) (numbered g (def_count ds) gs) (g + def_count ds) ds)
         ∙ sym (append_renumbered (def_functions (shares (fix_captured s ds) (def_count ds) s) (numbered g (def_count ds) gs) (fix_captured s ds) (g + def_count ds) ds) (functions_defs (shares (fix_captured s ds) (def_count ds) s) (numbered g (def_count ds) gs) (g + def_count ds) ds))
     functions_op_renumbered s gs g (CaseOp a bs) = functions_branches_renumbered s gs g bs
@@ -59,21 +56,21 @@ module _ (f : ℕ → ℕ) where
     functions_block_renumbered s gs g (BindAtom a t) = functions_block_renumbered (Plain s) (0 ∷ gs) g t
     functions_block_renumbered s gs g (Bind op t) =
         ap (λ k. functions_op s gs g (anf.renumber_op f op) ++ functions_block (Plain s) (0 ∷ gs) (g + k) (anf.renumber f t)) (op_functions_same f op)
-        ∙ two (functions_op_renumbered s gs g op) (functions_block_renumbered (Plain s) (0 ∷ gs) (g + op_functions op) t)
+        ∙ ap₂ ◌++◌ (functions_op_renumbered s gs g op) (functions_block_renumbered (Plain s) (0 ∷ gs) (g + op_functions op) t)
         ∙ sym (append_renumbered (functions_op s gs g op) (functions_block (Plain s) (0 ∷ gs) (g + op_functions op) t))
 
     pub functions_branches_renumbered : (s : Scope) (gs : List ℕ) (g : ℕ) (bs : AnfBranches) → functions_branches s gs g (anf.renumber_branches f bs) ≡ renumber_functions f (functions_branches s gs g bs)
     functions_branches_renumbered s gs g NoBranch = refl
     functions_branches_renumbered s gs g (Branch n t rest) =
         ap (λ k. functions_block (plains n s) (unnumbered n gs) g (anf.renumber f t) ++ functions_branches s gs (g + k) (anf.renumber_branches f rest)) (block_functions_same f t)
-        ∙ two (functions_block_renumbered (plains n s) (unnumbered n gs) g t) (functions_branches_renumbered s gs (g + block_functions t) rest)
+        ∙ ap₂ ◌++◌ (functions_block_renumbered (plains n s) (unnumbered n gs) g t) (functions_branches_renumbered s gs (g + block_functions t) rest)
         ∙ sym (append_renumbered (functions_block (plains n s) (unnumbered n gs) g t) (functions_branches s gs (g + block_functions t) rest))
 
     pub functions_defs_renumbered : (s : Scope) (gs : List ℕ) (g : ℕ) (ds : AnfDefs) → functions_defs s gs g (anf.renumber_defs f ds) ≡ renumber_functions f (functions_defs s gs g ds)
     functions_defs_renumbered s gs g NoDef = refl
     functions_defs_renumbered s gs g (LamDef b rest) =
         ap (λ k. functions_block (Plain s) (0 ∷ gs) g (anf.renumber f b) ++ functions_defs s gs (g + k) (anf.renumber_defs f rest)) (block_functions_same f b)
-        ∙ two (functions_block_renumbered (Plain s) (0 ∷ gs) g b) (functions_defs_renumbered s gs (g + block_functions b) rest)
+        ∙ ap₂ ◌++◌ (functions_block_renumbered (Plain s) (0 ∷ gs) g b) (functions_defs_renumbered s gs (g + block_functions b) rest)
         ∙ sym (append_renumbered (functions_block (Plain s) (0 ∷ gs) g b) (functions_defs s gs (g + block_functions b) rest))
     functions_defs_renumbered s gs g (BoxDef rest) = functions_defs_renumbered s gs g rest
 

@@ -1,5 +1,5 @@
 -- The lifted program with constants by their names is that of the program with constants by their places.
-use Rattle.std.proofs.Common.{◌≡◌, ℕ, suc, ◌+◌, List, [], ◌∷◌, ◌++◌, map, refl, sym, ap, ◌∙◌}
+use Rattle.std.proofs.Common.{◌≡◌, ℕ, suc, ◌+◌, List, [], ◌∷◌, ◌++◌, map, refl, sym, ap, ap₂, ◌∙◌}
 use Rattle.std.specs.Prelude.{nat_eq, if◌then◌else◌}
 use Rattle.anf_convert.specs.Anf.{AnfBlock}
 use Rattle.anf_convert.specs.Renumbering as anf
@@ -53,14 +53,11 @@ module _ (h : ℕ → ℕ) where
   count_same [] = refl
   count_same (c ∷ cs) = ap (λ k. k + constants_functions (renamed cs)) (block_functions_same h c.body) ∙ ap (λ k. block_functions c.body + k) (count_same cs)
 
-  two : {xs xs' ys ys' : List Fn} → xs ≡ xs' → ys ≡ ys' → xs ++ ys ≡ xs' ++ ys'
-  two e k = cc
-
   functions_same : (g : ℕ) (cs : List AnfConstant) → functions_constants g (renamed cs) ≡ renumber_functions h (functions_constants g (bodies cs))
   functions_same g [] = refl
   functions_same g (c ∷ cs) =
       ap (λ k. functions_block Outside [] g (anf.renumber h c.body) ++ functions_constants (g + k) (renamed cs)) (block_functions_same h c.body)
-      ∙ two (functions_block_renumbered h Outside [] g c.body) (functions_same (g + block_functions c.body) cs)
+      ∙ ap₂ ◌++◌ (functions_block_renumbered h Outside [] g c.body) (functions_same (g + block_functions c.body) cs)
       ∙ sym (append_renumbered h (functions_block Outside [] g c.body) (functions_constants (g + block_functions c.body) (bodies cs)))
 
   constants_same : (f : ℕ → ℕ) → ((x : ℕ) → f x ≡ h x) → (g : ℕ) (cs : List AnfConstant) → map (λ (c : LiftedConstant). renumber f c.body) (named_constants g cs) ≡ lift_constants g (renamed cs)
@@ -81,7 +78,7 @@ lifted_is P =
     let ef : renumber_functions f (functions_constants 0 (bodies cs) ++ functions_block Outside [] n P.main) ≡ functions_constants 0 (renamed h cs) ++ functions_block Outside [] (constants_functions (renamed h cs)) (anf.renumber h P.main) =
     same_functions f h e (functions_constants 0 (bodies cs) ++ functions_block Outside [] n P.main)
     ∙ append_renumbered h (functions_constants 0 (bodies cs)) (functions_block Outside [] n P.main)
-    ∙ two h (sym (functions_same h 0 cs)) (sym (functions_block_renumbered h Outside [] n P.main))
+    ∙ ap₂ ◌++◌ (sym (functions_same h 0 cs)) (sym (functions_block_renumbered h Outside [] n P.main))
     ∙ ap (λ k. functions_constants 0 (renamed h cs) ++ functions_block Outside [] k (anf.renumber h P.main)) (sym k) in
     let et : renumber f (lift_block Outside [] [] n P.main) ≡ lift_block Outside [] [] (constants_functions (renamed h cs)) (anf.renumber h P.main) =
     same_block f h e (lift_block Outside [] [] n P.main) ∙ sym (lift_block_renumbered h Outside [] [] n P.main) ∙ ap (λ k. lift_block Outside [] [] k (anf.renumber h P.main)) (sym k) in

@@ -9,6 +9,7 @@ use Rattle.anf_convert.specs.declared.program.Op.{Op}
 use Rattle.anf_convert.specs.declared.program.AnfBranch.{AnfBranch}
 use Rattle.anf_convert.specs.declared.program.AnfDef.{AnfDef}
 use Rattle.anf_convert.specs.declared.program.AnfDef.TheVariants as def
+use Rattle.anf_convert.proofs.ViewLists.{defs_of_count}
 use Rattle.closure_lift.specs.Lifted.{Block, Fn}
 use Rattle.closure_lift.specs.Lift.{LiftSlot, unnumbered, holding, block_functions, lift_branches, functions_block, functions_branches, def_functions, functions_defs}
 use Rattle.closure_lift.specs.LiftedView.{seen, bounds_of, functions_of, branches_of as lifted_branches}
@@ -19,11 +20,11 @@ use Rattle.closure_lift.specs.CapturedLimit.{BlockCaptures, BranchesCapture, Def
 use Rattle.closure_lift.specs.declared.program.LiftedOp.{LiftedOp}
 use Rattle.closure_lift.specs.declared.program.LiftedBranch.{LiftedBranch}
 use Rattle.closure_lift.specs.declared.program.Function.{Function}
-use Rattle.closure_lift.proofs.Counted.{functions_length}
+use Rattle.closure_lift.proofs.Counted.{functions_length, bounds_append}
 use Rattle.closure_lift.proofs.FreeWords.{size_plains}
 use Rattle.closure_lift.proofs.Going.{BlockGoes, block_goes, ArmsGo, arms_go, arms_code, DefsGo, defs_go, defs_end, functions_more}
-use Rattle.closure_lift.proofs.Making.{bounds_append, blanks_length}
-use Rattle.closure_lift.proofs.Noting.{next_of, notes_step, notes_tail, notes_one, count_defs, part_none}
+use Rattle.closure_lift.proofs.Making.{blanks_length}
+use Rattle.closure_lift.proofs.Noting.{next_of, notes_step, notes_tail, notes_one, part_none}
 use Rattle.closure_lift.proofs.Placed.{block_length}
 use Rattle.closure_lift.proofs.Steps.{stand_first, block_noted, captures_first}
 
@@ -140,7 +141,7 @@ module _ (notes : List (List ℕ)) (ws : List ℕ) (at : ℕ) (v0 : Scope × Lis
       let m = length-append h.done (blanks (def_count (defs_of (drop i ds))) ++ h.inside) in
       let l = length-append (blanks (def_count (defs_of (drop i ds)))) h.inside in
       let b = blanks_length (def_count (defs_of (drop i ds))) in
-      let c : def_count (defs_of (drop i ds)) ≡ suc (length (drop (i + 1) ds)) = count_defs (drop i ds) ∙ ap length (next_of ds i d lt is) in
+      let c : def_count (defs_of (drop i ds)) ≡ suc (length (drop (i + 1) ds)) = defs_of_count (drop i ds) ∙ ap length (next_of ds i d lt is) in
       let x = h.first in
       let y = h.count in
       omega arith

@@ -1,20 +1,17 @@
 -- The numbers of each request lie in their ranges.
 use Rattle.std.proofs.Common.{◌≡◌, ◌≤◌, ℕ, Bool, true, false, ◌&&◌, leb, le-leb, leb-true, if◌then◌else◌, Option, Some, None, refl, ap, subst}
 use Rattle.std.specs.Prelude.{option_and_then, unwrap_or}
+use Rattle.std.proofs.lemmas.Bool.{and_parts}
 use Rattle.clap.specs.Walk.{is_empty}
 use Rattle.clap.specs.Words.{fault_of, matches_of}
 use Rattle.command_line.specs.Line.{command, has_ranges, lies_within, request_in, request_of, within_ranges, IsInRange, RequestsLieInRange}
 use Rattle.command_line.specs.declared.line.Request.{Request}
 
-both_true : (a b : Bool) → (a && b) ≡ true → (a ≡ true) × (b ≡ true)
-both_true true b e = (refl, e)
-both_true false b e = cc
-
 within_true : (most n : ℕ) → (1 ≤ n) × (n ≤ most) → lies_within most n ≡ true
 within_true most n h = rw (le-leb 1 n h.0, le-leb n most h.1) refl
 
 true_within : (most n : ℕ) → lies_within most n ≡ true → (1 ≤ n) × (n ≤ most)
-true_within most n e = (let b = both_true (leb 1 n) (leb n most) e in (leb-true 1 n b.0, leb-true n most b.1))
+true_within most n e = (let b = and_parts (leb 1 n) (leb n most) e in (leb-true 1 n b.0, leb-true n most b.1))
 
 -- a request whose numbers lie in their ranges is kept
 pub kept_within : (r : Request) → IsInRange r → within_ranges r ≡ Some r
@@ -24,9 +21,9 @@ kept_within r h = rw (within_true 4294967295 r.turns h.turns, within_true 16384 
 
 in_range : (r : Request) → has_ranges r ≡ true → IsInRange r
 in_range r e =
-    let a = both_true (lies_within 4294967295 r.turns) (lies_within 16384 r.pages && (lies_within 4294967295 r.steps && lies_within 4096 r.size)) e in
-    let b = both_true (lies_within 16384 r.pages) (lies_within 4294967295 r.steps && lies_within 4096 r.size) a.1 in
-    let c = both_true (lies_within 4294967295 r.steps) (lies_within 4096 r.size) b.1 in
+    let a = and_parts (lies_within 4294967295 r.turns) (lies_within 16384 r.pages && (lies_within 4294967295 r.steps && lies_within 4096 r.size)) e in
+    let b = and_parts (lies_within 16384 r.pages) (lies_within 4294967295 r.steps && lies_within 4096 r.size) a.1 in
+    let c = and_parts (lies_within 4294967295 r.steps) (lies_within 4096 r.size) b.1 in
     record {
       turns = true_within 4294967295 r.turns a.0;
       pages = true_within 16384 r.pages b.0;

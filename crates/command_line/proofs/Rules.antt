@@ -2,7 +2,7 @@
 use Rattle.std.proofs.Common.{◌≡◌, ◌⊎◌, ◌∙◌, ◌<◌, ◌≤◌, ◌&&◌, ap, sym, subst, refl, ℕ, zero, suc, Bool, true, false, not, List, [], ◌∷◌, length, map, Option, Some, None, is_some, inl, inr, arith, codes}
 use Rattle.std.specs.List.{All, slice_index_or, list_any, list_all}
 use Rattle.std.specs.Str.{bytes_eq}
-use Rattle.std.proofs.lemmas.Bool.{ne_eqb}
+use Rattle.std.proofs.lemmas.Bool.{ne_eqb, and_parts}
 use Rattle.std.proofs.lemmas.List.{get_or-map, length-map}
 use Rattle.std.proofs.lemmas.List.Folds.{list_any_at}
 use Rattle.std.proofs.lemmas.Slice.Eq.{bytes_eq-Decides}
@@ -16,14 +16,6 @@ use Rattle.clap.specs.declared.builder.arg.Arg.{Arg}
 use Rattle.clap.specs.declared.builder.command.Command.{Command}
 use Rattle.clap.specs.declared.builder.command.Command.TheViews.{out-Command}
 use Rattle.clap.specs.declared.builder.value_parser.ValueParser.{ValueParser}
-
-and_left : (a b : Bool) → (a && b) ≡ true → a ≡ true
-and_left true b h = refl
-and_left false b h = h
-
-and_right : (a b : Bool) → (a && b) ≡ true → b ≡ true
-and_right true b h = h
-and_right false b h = cc
 
 not_true : (a : Bool) → not a ≡ true → a ≡ false
 not_true true h = cc
@@ -65,10 +57,10 @@ only_place (r ∷ rs) id zero h (suc j) e lt same =
     let bad : false ≡ true = sym no ∙ yes in
     cc
 only_place (r ∷ rs) id (suc k) h zero e lt same =
-    let no = not_true (bytes_eq r.id id) (and_left _ _ h) in
+    let no = not_true (bytes_eq r.id id) (and_parts _ _ h).0 in
     let bad : false ≡ true = sym no ∙ same in
     cc
-only_place (r ∷ rs) id (suc k) h (suc j) e lt same = ap suc (only_place rs id k (and_right _ _ h) j e (omega (arith, lt)) same)
+only_place (r ∷ rs) id (suc k) h (suc j) e lt same = ap suc (only_place rs id k (and_parts _ _ h).1 j e (omega (arith, lt)) same)
 
 -- the rule at place k is that of an option that takes one value of a parser and has a default
 pub record IsOption (rules : List Rule) (k : ℕ) (r : Rule) (q : ValueParser) : Type 0 where
@@ -91,15 +83,15 @@ pub record HasRules (c : Command) (rules : List Rule) : Type 0 where
   pub plain : has_plain_fields (out-Command c) ≡ true
 
 pub no_globals : (c : Command) (rules : List Rule) → HasRules c rules → (out-Command c).has_globals ≡ false
-no_globals c rules h = not_true _ (and_left _ _ (and_right _ _ (and_right _ _ h.plain)))
+no_globals c rules h = not_true _ (and_parts _ _ (and_parts _ _ (and_parts _ _ h.plain).1).1).0
 
 pub no_group : (c : Command) (rules : List Rule) → HasRules c rules → groups_of c ≡ []
-no_group c rules h = no_items _ (and_left _ _ h.plain)
+no_group c rules h = no_items _ (and_parts _ _ h.plain).0
 
 names_no_group_in : (xs : List Arg) → list_all (λ r. r.is_simple) (map rule_of xs) ≡ true → All (λ a. a.groups.items ≡ []) xs
 names_no_group_in [] h k d lt = absurd (omega (arith, lt))
-names_no_group_in (x ∷ xs) h zero d lt = no_items _ (and_left _ _ (and_right _ _ (and_right _ _ (and_left (is_simple_arg x) _ h))))
-names_no_group_in (x ∷ xs) h (suc k) d lt = names_no_group_in xs (and_right _ _ h) k d (omega (arith, lt))
+names_no_group_in (x ∷ xs) h zero d lt = no_items _ (and_parts _ _ (and_parts _ _ (and_parts _ _ (and_parts (is_simple_arg x) _ h).0).1).1).0
+names_no_group_in (x ∷ xs) h (suc k) d lt = names_no_group_in xs (and_parts _ _ h).1 k d (omega (arith, lt))
 
 pub names_no_group : (c : Command) (rules : List Rule) → HasRules c rules → NamesNoGroup c
 names_no_group c rules h = names_no_group_in (args_of c) (rw h.are h.simple)
@@ -131,18 +123,18 @@ pub record IsReadAs (a : Arg) (r : Rule) (q : ValueParser) : Type 0 where
 pub read_as_rule : (rules : List Rule) (k : ℕ) (r : Rule) (q : ValueParser) → IsOption rules k r q → (a : Arg) → rule_of a ≡ r → IsReadAs a r q
 read_as_rule rules k r q o a is =
     let simple : is_simple_arg a ≡ true = ap (λ s. s.is_simple) is ∙ o.simple in
-    let no_override = and_right (is_empty a.overrides.items) _ simple in
-    let no_condition = and_right (is_empty a.default_vals_ifs.items) _ no_override in
-    let no_group_named = and_right (is_empty a.groups.items) _ no_condition in
+    let no_override = (and_parts (is_empty a.overrides.items) _ simple).1 in
+    let no_condition = (and_parts (is_empty a.default_vals_ifs.items) _ no_override).1 in
+    let no_group_named = (and_parts (is_empty a.groups.items) _ no_condition).1 in
     let one : a.num_vals ≡ None = ap (λ s. s.range) is ∙ o.single in record {
       id = ap (λ s. s.id) is;
       set = ap (λ s. s.action) is ∙ o.set;
-      no_delimiter = no_value a.val_delim (and_left (not (is_some a.val_delim)) _ no_group_named);
+      no_delimiter = no_value a.val_delim (and_parts (not (is_some a.val_delim)) _ no_group_named).0;
       least = rw one (omega arith);
       parser = ap (λ s. s.parser) is ∙ o.parser;
       case = ap (λ s. s.ignore_case) is;
       default = (
-        no_items a.default_vals_ifs.items (and_left (is_empty a.default_vals_ifs.items) _ no_override),
+        no_items a.default_vals_ifs.items (and_parts (is_empty a.default_vals_ifs.items) _ no_override).0,
         some_items (λ s. s.now) (items_of a.default_vals) (subst (λ ts. 0 < length ts) (sym (ap (λ s. s.defaults) is)) o.default),
       );
     }

@@ -1,18 +1,18 @@
 -- A program that has a module meets the conditions of the back end's theorems; and a program is refused for one cause.
-use Rattle.std.proofs.Common.{◌≡◌, ℕ, ◌<◌, ◌≤◌, List, [], ◌∷◌, refl, sym, subst, arith, inl, inr}
+use Rattle.std.proofs.Common.{◌≡◌, ℕ, ◌<◌, ◌≤◌, List, refl, sym, subst, arith, inl, inr}
 use Rattle.std.specs.Prelude.{length}
 use Rattle.std.proofs.lemmas.Bool.{cases_lt}
 use Rattle.trees.specs.Measures.{depth}
-use Rattle.lambda_box.specs.BoxProgram.{BoxConstant, BoxFamily, BoxProgram, Has, here, there}
+use Rattle.lambda_box.specs.BoxProgram.{BoxConstant, BoxFamily, BoxProgram, Has}
 use Rattle.lambda_box.specs.BoxForm.{IsBoxProgram}
 use Rattle.box_passes.specs.PassLaws.{saturated_program}
 use Rattle.box_passes.specs.PassResults.{IsDeep, deep_main, deep_constant}
 use Rattle.shrink_passes.specs.ShrunkProgram.{shrunk_program}
 use Rattle.shrink_passes.proofs.ShrunkPrograms.{shrunk_forms, shrunk_shallow}
 use Rattle.anf_convert.specs.AnfForm.{AnfFormed}
-use Rattle.anf_convert.specs.BoxForms.{AreShallow, ConstructorsWithin}
+use Rattle.anf_convert.specs.BoxForms.{ConstructorsWithin}
 use Rattle.anf_convert.specs.ToAnf.{to_anf}
-use Rattle.anf_convert.proofs.Prepared.{form_kept}
+use Rattle.anf_convert.proofs.Prepared.{all_shallow, form_kept}
 use Rattle.closure_lift.specs.LiftedForm.{Limits, Formed}
 use Rattle.closure_lift.proofs.CapturedLimit.{captured_exactly}
 use Rattle.closure_lift.proofs.Forms.{lift_forms}
@@ -33,10 +33,6 @@ main_shallow P h = not_more 2048 (depth P.main) (λ lt. h (deep_main lt))
 
 pub constant_shallow : (P : BoxProgram) → (IsDeep P → ⊥) → (d : BoxConstant) → Has P.constants d → depth d.body ≤ 2048
 constant_shallow P h d has = not_more 2048 (depth d.body) (λ lt. h (deep_constant d has lt))
-
-all_shallow : (cs : List BoxConstant) → ((d : BoxConstant) → Has cs d → depth d.body ≤ 2048) → AreShallow cs
-all_shallow [] h = tt
-all_shallow (c ∷ cs) h = (h c here, all_shallow cs (λ d has. h d (there has)))
 
 -- the program in A-normal form of a program within the depth limit has its names in scope
 pub normal_formed : (P : BoxProgram) (m : ℕ) → IsBoxProgram P → IsShallow P → ConstructorsWithin P m → AnfFormed (to_anf (shrunk_program P)) m

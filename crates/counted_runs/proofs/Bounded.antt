@@ -1,5 +1,6 @@
 -- The bounds by the counts, from the laws of all passes.
 use Rattle.std.proofs.Common.{◌≡◌, ℕ, ◌+◌, ◌*◌, ◌≤◌, false, [], ◌⊎◌, inl, inr, sym, ◌∙◌, subst, arith}
+use Rattle.std.proofs.lemmas.Option.{same_Some}
 use Rattle.lambda_box.specs.ClosureEvaluation.{Empty, NoValue}
 use Rattle.lambda_box.specs.DataTerms.{hold_none}
 use Rattle.lambda_box.proofs.OneRun.{runs_are_one}
@@ -20,7 +21,6 @@ use Rattle.wasm_core.specs.Runs.{store_of}
 use Rattle.wasm_core.specs.RunTree.{Fate, goes_on, ended, ran_out}
 use Rattle.wasm_core.specs.Answer.{Answers, Exhausted, exhausted, AnswersWithin}
 use Rattle.wasm_core.specs.WordData.{DataNodes as Nodes}
-use Rattle.wasm_core.proofs.Small.{inj}
 use Rattle.wasm_emit.specs.CallDepth.{call_depth, MainEvaluates}
 use Rattle.wasm_emit.specs.EmitLaws.{Spent, spent}
 use Rattle.known_calls.specs.KnownLaws.{FinishedWithin}
@@ -67,7 +67,7 @@ counts_bound_runs P pages m tree c pos small some ok given =
     record {
       answers = all;
       enough = λ big n t reach end free.
-          let fate = (r.runs.emitted.run n t (subst (λ (f : State). Reach M n f t) (inj (sym all.starts ∙ r.runs.emitted.starts)) reach)).1 in
+          let fate = (r.runs.emitted.run n t (subst (λ (f : State). Reach M n f t) (same_Some _ _ (sym all.starts ∙ r.runs.emitted.starts)) reach)).1 in
           let few = r.few in
           unless_exhausted (all.answers n t reach end)
           (subst (λ (y : Nodes). Fate M (call_depth r.runs.evaluates + 1) (FinishedWithin M y (8 + 4 * r.words)) (Spent M (8 + 4 * r.words)) k.matches n t) d.2 fate) (omega (arith, few, bytes, big)) free;

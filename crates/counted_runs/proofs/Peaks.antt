@@ -1,12 +1,12 @@
 -- A machine's peak, from the frames that wait at each state that its module's runs reach.
 use Rattle.std.proofs.Common.{◌≡◌, ℕ, zero, suc, ◌≤◌, length, None, Some, sym, ◌∙◌, ap, subst, arith}
+use Rattle.std.proofs.lemmas.Option.{same_Some}
 use Rattle.lambda_box.specs.BoxProgram.{BoxProgram}
 use Rattle.wasm_core.specs.HostStore.{IsForCall, main_start_in}
 use Rattle.wasm_core.specs.MachineRun.{MachineShown}
 use Rattle.wasm_core.specs.MachineStep.{State, Conf, At, Over, Reach}
 use Rattle.wasm_core.specs.Parts.{Parts}
 use Rattle.wasm_core.specs.Runs.{Moves, main_start}
-use Rattle.wasm_core.proofs.Small.{inj}
 use Rattle.wasm_core.proofs.Trees.{moves_are_steps}
 use Rattle.wasm_run.specs.Standing.{HasPeak, frames, most_frames}
 use Rattle.headline.specs.EveryRun.{module_for}
@@ -35,7 +35,7 @@ peak_here : (P : BoxProgram) (pages : ℕ) (first : State) (few : ℕ) → main_
 peak_here P pages first few starts h a p same x =
     let M = module_for P pages in
     let begun : main_start M ≡ Some x.first = ap (main_start_in M) (sym (x.own (alone P pages))) ∙ x.starts in
-    let there : Wait M x.first few = subst (λ s. Wait M s few) (inj (sym starts ∙ begun)) h in
+    let there : Wait M x.first few = subst (λ s. Wait M s few) (same_Some _ _ (sym starts ∙ begun)) h in
     let most = few_frames M a.cap x.first few there x.steps a.state x.run in
     omega (arith, x.most, most)
 

@@ -11,12 +11,11 @@ use Rattle.wasm_core.specs.MachineRun.{refusal_for_call}
 use Rattle.wasm_core.specs.HostStore.{main_start_in, with_store}
 use Rattle.wasm_core.specs.Runs.{first_store, main_start, store_of}
 use Rattle.wasm_core.specs.WordData.{DataNodes}
-use Rattle.wasm_core.proofs.Small.{some_of}
+use Rattle.wasm_core.proofs.Small.{some_of, map_of}
 use Rattle.wasm_core.proofs.Starting.{hosted_starts, started}
 use Rattle.wasm_core.proofs.Trees.{moves_are_steps}
 use Rattle.mem_value.specs.Storing.{HasHeap, HasStored, IsSmallData, put_arguments}
 use Rattle.mem_value.proofs.Placing.{has_stored}
-use Rattle.mem_value.proofs.Stacks.{mapped}
 use Rattle.wasm_emit.proofs.Bytes.{zeroed_length}
 use Rattle.known_calls.specs.KnownCalls.{module_of_call}
 use Rattle.back_end.specs.BackEnd.{passed}
@@ -66,7 +65,7 @@ module _ (P : BoxProgram) (k pages : ℕ) (args : List DataNodes) (small : Each 
   held_at : (first : State) → start_with M pages args ≡ Some first → IsHeldAt first
   held_at first e =
       let (s, own, e1) = some_of (with_arguments M pages args) (main_start M) first e in
-      let (new, put, is) = mapped (with_store s) (put_arguments M pages args (store_of s)) first e1 in
+      let (new, put, is) = map_of (with_store s) (put_arguments M pages args (store_of s)) first e1 in
       let there : put_arguments M pages args (first_store M) ≡ Some new = ap (put_arguments M pages args) (own_store M s own) ∙ put in
       record { store = new; holds = stored_arguments_are_held (passed P) k pages pages new args (stored new there); starts = hosted_starts M new s own ∙ ap (λ x. Some x) is }
 

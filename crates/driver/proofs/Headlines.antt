@@ -1,5 +1,6 @@
 -- What `exec` answers where main, of a first-order type, evaluates to a value, and the bounds within which it answers data.
 use Rattle.std.proofs.Common.{◌≡◌, ◌∙◌, ℕ, ◌+◌, ◌*◌, ◌<◌, ◌≤◌, List, Some, Ok, Err, ◌⊎◌, inl, inr, false, refl, sym, ap, subst, arith}
+use Rattle.std.proofs.lemmas.Option.{same_Some}
 use Rattle.pc_terms.specs.Syntax.{Term}
 use Rattle.pc_rules.specs.declared.meter.Account.{Account}
 use Rattle.calculus_rules.specs.Environment.{Env}
@@ -19,7 +20,6 @@ use Rattle.wasm_core.specs.Parts.{Parts}
 use Rattle.wasm_core.specs.MachineStep.{State, Store, Over, Reach}
 use Rattle.wasm_core.specs.Answer.{Answers, AnswersWithin, IsAtEnd}
 use Rattle.wasm_core.specs.Runs.{main_start, store_of}
-use Rattle.wasm_core.proofs.Small.{inj}
 use Rattle.wasm_core.proofs.Trees.{moves_are_steps}
 use Rattle.known_calls.specs.KnownModule.{module_of}
 use Rattle.back_end.specs.BackEnd.{passed, IsWithinPasses}
@@ -125,7 +125,7 @@ module _ (pages steps : ℕ) (P : BoxProgram) (most size : ℕ) (ds : Data) (r :
       let t : State = Over (Trapped kind) x.store in
       let same : pages ≤ pages = omega arith in
       let choice : x.store.by_choice ≡ false = past_maximum M pages run.steps run.first t same run.starts run.moves in
-      let reach : Reach M run.steps r.answers.first t = subst (λ (f : State). Reach M run.steps f t) (inj (sym run.starts ∙ r.answers.starts)) (moves_are_steps M pages run.steps run.first t run.moves) in
+      let reach : Reach M run.steps r.answers.first t = subst (λ (f : State). Reach M run.steps f t) (same_Some _ _ (sym run.starts ∙ r.answers.starts)) (moves_are_steps M pages run.steps run.first t run.moves) in
       trap_answers (r.enough big run.steps t reach (λ granted s st. st) choice)
 
 -- ---- the stages, as the headline takes them

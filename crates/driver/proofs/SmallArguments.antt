@@ -2,7 +2,7 @@
 use Rattle.std.proofs.Common.{◌≡◌, ℕ, zero, suc, ◌+◌, ◌<◌, ◌≤◌, List, [], ◌∷◌, map, length, Bool, true, false, Option, Some, None, refl, ap, ◌∙◌, subst, arith}
 use Rattle.std.specs.Prelude.{if◌then◌else◌, option_map, slice_get}
 use Rattle.std.proofs.lemmas.List.{length-map}
-use Rattle.std.proofs.lemmas.Option.{slice_get-map}
+use Rattle.std.proofs.lemmas.Option.{slice_get-map, same_Some}
 use Rattle.sexp_reader.specs.Text.{Text}
 use Rattle.pc_terms.specs.Syntax.{Term, Rel, put_all}
 use Rattle.calculus_rules.specs.declared.declaration.Constructor.{Constructor}
@@ -26,7 +26,6 @@ use Rattle.data_trees.specs.Preorder.{IsTree}
 use Rattle.wasm_core.specs.ModuleCondition.{All as Each}
 use Rattle.wasm_core.specs.WordData.{DataNodes}
 use Rattle.wasm_core.proofs.Eaches.{each_append}
-use Rattle.wasm_core.proofs.Small.{inj}
 use Rattle.mem_value.specs.Storing.{IsSmallData, IsSmallNode}
 
 -- ---- the counts of a type that is found
@@ -94,7 +93,7 @@ found_in names a n (k ∷ ks) c js e = split (is_text a (slice_get names k.name.
   where
     split : (b : Bool) → (if b then Some (n, k.args) else ctor_from names a (suc n) ks) ≡ Some (c, js) → (ctor_from names a (suc n) ks ≡ Some (c, js) → IsCtorIn ks (suc n) c js) → IsCtorIn (k ∷ ks) n c js
     split true e later =
-        let same : (n, k.args) ≡ (c, js) = inj e in
+        let same : (n, k.args) ≡ (c, js) = same_Some _ _ e in
         let number : n ≡ c = ap (λ (p : ℕ × List ℕ). p.0) same in
         record { below = subst (λ x. x < n + suc (length ks)) number (omega arith); place = 0; ctor = k; at = refl; is = ap (λ (p : ℕ × List ℕ). p.1) same }
     split false e later = (let r = later e in let lt = r.below in record { below = omega (arith, lt); place = suc r.place; ctor = r.ctor; at = r.at; is = r.is })

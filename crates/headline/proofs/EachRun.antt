@@ -1,5 +1,6 @@
 -- What every run of a program's module does, from the laws of the passes together.
 use Rattle.std.proofs.Common.{◌≡◌, ◌∙◌, ℕ, ◌+◌, ◌*◌, ◌≤◌, ◌⊎◌, length, inl, inr, true, false, refl, sym, subst, arith}
+use Rattle.std.proofs.lemmas.Option.{same_Some}
 use Rattle.lambda_box.specs.DataTerms.{greatest_words}
 use Rattle.lambda_box.proofs.Determined.{evaluation_is_determined}
 use Rattle.box_passes.specs.PassLaws.{saturated_program}
@@ -12,7 +13,6 @@ use Rattle.wasm_core.specs.Runs.{store_of}
 use Rattle.wasm_core.specs.RunTree.{Fate, goes_on, ended, ran_out}
 use Rattle.wasm_core.specs.Answer.{Answers, Exhausted, exhausted}
 use Rattle.wasm_core.specs.WordData.{DataNodes as Nodes}
-use Rattle.wasm_core.proofs.Small.{inj}
 use Rattle.wasm_emit.specs.EmitLaws.{Spent}
 use Rattle.known_calls.specs.KnownLaws.{FinishedWithin}
 use Rattle.back_end.proofs.Bounds.{bounds}
@@ -50,9 +50,9 @@ each_run P pages w b n tree pos small some words within e =
       enough = λ big k t r end. unless_exhausted M tree t (a.answers k t r end) (λ trap s q. y.memory (omega (arith, big, bytes)) a.first k trap s a.starts (subst (λ (u : State). Reach M k a.first u) q r));
       lifted = x.lifted;
       shallow = omega (arith, x.shallow, few);
-      waiting = λ k c r. few_wait (x.run k (At c) (subst (λ (f : State). Reach M k f (At c)) (inj (sym a.starts ∙ x.starts)) r)).1;
+      waiting = λ k c r. few_wait (x.run k (At c) (subst (λ (f : State). Reach M k f (At c)) (same_Some _ _ (sym a.starts ∙ x.starts)) r)).1;
       least = λ value nodes matches k s evaluates r.
           let same : x.matches ≡ matches = (evaluation_is_determined (saturated_program P) (passes_form P within.form).form (saturated_program P).main x.w value x.nodes nodes x.matches matches x.saturated evaluates).2 in
-          let late = returned (x.run k (Over Returned s) (subst (λ (f : State). Reach M k f (Over Returned s)) (inj (sym a.starts ∙ x.starts)) r)).1 in
+          let late = returned (x.run k (Over Returned s) (subst (λ (f : State). Reach M k f (Over Returned s)) (same_Some _ _ (sym a.starts ∙ x.starts)) r)).1 in
           omega (arith, same, late);
     }

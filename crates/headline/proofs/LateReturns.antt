@@ -1,5 +1,6 @@
 -- A run that returns has made at least as many steps as the evaluation of the saturated program has matches.
 use Rattle.std.proofs.Common.{◌∙◌, ◌≤◌, List, [], ◌∷◌, length, refl, sym, subst, arith}
+use Rattle.std.proofs.lemmas.Option.{same_Some}
 use Rattle.trees.specs.Measures.{depth}
 use Rattle.lambda_box.specs.BoxProgram.{BoxConstant, BoxFamily, Has, here, there}
 use Rattle.lambda_box.specs.ClosureEvaluation.{Empty, NoValue, bind_all, ClosureRun}
@@ -21,7 +22,6 @@ use Rattle.anf_convert.proofs.Preorder.{reads_tree}
 use Rattle.anf_convert.proofs.Prepared.{data_kept, form_kept}
 use Rattle.wasm_core.specs.declared.ended.Ended.TheVariants.{Returned}
 use Rattle.wasm_core.specs.MachineStep.{State, Over, Reach}
-use Rattle.wasm_core.proofs.Small.{inj}
 use Rattle.known_calls.proofs.KnownComposition.{anf_answers_known}
 use Rattle.back_end.proofs.Whole.{families, no_values}
 use Rattle.back_end.proofs.Lower.{returned}
@@ -50,5 +50,5 @@ late_returns P pages b pos small some ok value tree nodes matches evaluates read
     let c = r.counts in
     let y = to_anf_keeps S NoValue WNil DNil r.v d.0 c ready anf.no_values anf_data_none (box_alone r.run) d.1 in
     let z = anf_answers_known (to_anf S) pages c.greatest b y.v d.0 y.contractions c.matches c.blocks y.words pos small some formed ok.limits y.answers y.is in
-    let least = returned (z.emitted.run k (Over Returned s) (subst (λ (f : State). Reach (module_for P pages) k f (Over Returned s)) (inj (sym starts ∙ z.emitted.starts)) reach)).1 in
+    let least = returned (z.emitted.run k (Over Returned s) (subst (λ (f : State). Reach (module_for P pages) k f (Over Returned s)) (same_Some _ _ (sym starts ∙ z.emitted.starts)) reach)).1 in
     omega (arith, first_run.matches, r.no_more.matches, least)

@@ -1,6 +1,7 @@
 -- A job's answers on the same bytes are one text.
 use Rattle.std.proofs.Common.{◌≡◌, ◌≢◌, ℕ, ◌<◌, ◌≤◌, List, [], ◌∷◌, ◌++◌, length, Ok, inl, inr, refl, sym, ap, subst, ◌∙◌, arith}
 use Rattle.std.proofs.lemmas.Bool.{cases_lt}
+use Rattle.std.proofs.lemmas.Option.{same_Some}
 use Rattle.calculus_rules.proofs.OneEach.{one_of_each}
 use Rattle.calculus_rules.specs.FirstOrder.{Data}
 use Rattle.dump_reader.specs.declared.environment.RawEnv.{RawEnv}
@@ -11,7 +12,6 @@ use Rattle.wasm_core.specs.Parts.{Parts}
 use Rattle.wasm_core.specs.MachineStep.{Store, Over}
 use Rattle.wasm_core.specs.Runs.{Moves, store_of}
 use Rattle.wasm_core.specs.ShortestBytes.{module_bytes}
-use Rattle.wasm_core.proofs.Small.{inj}
 use Rattle.module_run.specs.declared.answer.Answer.{Answer}
 use Rattle.module_run.specs.Ends.{IsReturned, IsRun}
 use Rattle.module_run.specs.FileEnds.{FileEnds}
@@ -56,7 +56,7 @@ module _ (turns : ℕ) (e : RawEnv) (pages steps : ℕ) where
 
 module _ (m : Parts) (cap n : ℕ) where
   one_start : (a b : Store) (r : IsRun m cap n (Over Returned a)) (q : IsRun m cap n (Over Returned b)) → r.first ≡ q.first
-  one_start a b r q = inj (sym r.starts ∙ q.starts)
+  one_start a b r q = same_Some _ _ (sym r.starts ∙ q.starts)
 
   not_fewer : (a b : Store) (r : IsRun m cap n (Over Returned a)) (q : IsRun m cap n (Over Returned b)) → r.steps < q.steps → ⊥
   not_fewer a b r q lt = went_on m cap r.steps q.steps r.first (Over Returned a) (Over Returned b) lt r.moves (subst (λ s. Moves m cap q.steps s (Over Returned b)) (sym (one_start a b r q)) q.moves)

@@ -1,7 +1,7 @@
 -- How many bytes emitted code has, and that its immediates have their bits.
 use Rattle.std.proofs.Common.{◌≡◌, ℕ, zero, suc, ◌+◌, ◌-◌, ◌*◌, ◌/◌, ◌<◌, ◌≤◌, List, [], ◌∷◌, length, take, drop, Option, Some, None, Bool, true, false, refl, arith}
 use Rattle.std.proofs.Common.{length-take-le, length-drop}
-use Rattle.std.proofs.lemmas.Bool.{leb-true}
+use Rattle.std.proofs.lemmas.Bool.{and_parts, leb-true}
 use Rattle.std.proofs.lemmas.Option.{slice_get_within}
 use Rattle.std.specs.Prelude.{max, nat_eq, nat_le, if◌then◌else◌}
 use Rattle.wasm_core.specs.declared.types.ValType.TheVariants.{I32}
@@ -23,12 +23,12 @@ use Rattle.wasm_emit.specs.EmitLaws.{CountsFit}
 use Rattle.wasm_emit.proofs.Lengths.{bytes_of, size, u_1, u_2, u_3, z_unreachable, z_if, z_else, z_end, z_op, z_call, z_indirect, z_get, z_set, z_tee, z_heap, z_size, z_room, z_small, z_header, z_global, z_load, z_store, z_const}
 use Rattle.wasm_emit.proofs.Spelled.{Good, fits}
 use Rattle.known_calls.specs.KnownPlaces.{Word, InLocal, InField, IsConst, Place, At, word_of, known_function, is_read, block_reads}
-use Rattle.known_calls.specs.KnownCode.{Position, Inside, InTail, deeper, worker_index, jumps, most_blocks, read_word, read, atom, push_words, fill, new_block, block, into_local, into_params, call_worker, application, choose, unmade, known, moves, move_field, branch_places, op, code, alternatives, branch, Final, call_of, closure_call}
+use Rattle.known_calls.specs.KnownCode.{Position, Inside, InTail, deeper, worker_index, jumps, most_blocks, read_word, read, atom, push_words, fill, new_block, block, into_local, into_params, call_worker, application, choose, unmade, known, moves, move_field, branch_places, op, code, alternatives, Final, call_of, closure_call}
 use Rattle.known_calls.specs.KnownTests.{Kind, Bare, Fielded, Alternative, keep, kept, is_of, is_some, first_number, equal_test, below_test, bare_test, arm, none, chain, are_many, many_alternatives, most_rounds, search, tests}
 use Rattle.known_calls.proofs.Parted.{all_kept, all_take, all_drop}
 use Rattle.known_calls.specs.KnownModule.{captured_words}
 use Rattle.known_calls.specs.KnownWeight.{op_weight, weight, branches_weight}
-use Rattle.known_calls.proofs.Unreading.{and_true, unmade_some}
+use Rattle.known_calls.proofs.Unreading.{unmade_some}
 use Rattle.known_calls.proofs.SameLocals.{top_less}
 use Rattle.known_calls.proofs.Fitting.{WordFits, PlaceFits, branch_fit, word_fits, function_fits, known_fits}
 
@@ -316,7 +316,7 @@ module _ (P : Program) (m : ℕ) (form : Formed P m) (counts : CountsFit P m) (l
 
   b_jump : (b : Bool) (g h n depth : ℕ) → jumps g h depth ≡ b → n ≤ 7 → worker_index P g < 2097152 → Bounded 38 (λ r. if b then into_params n (Br depth ∷ r) else (ReturnCall (worker_index P g) ∷ r))
   b_jump true g h n depth e few low =
-      let shallow = leb-true depth most_blocks (and_true (nat_eq g h) (nat_le depth most_blocks) e).1 in
+      let shallow = leb-true depth most_blocks (and_parts (nat_eq g h) (nat_le depth most_blocks) e).1 in
       b_most 38 (omega (arith, few)) (b_params n (omega arith) then b_one {k = 3} (Br depth) (λ r. z_br r depth (omega (arith, shallow))) (omega (arith, shallow)))
   b_jump false g h n depth e few low = b_most 38 (omega arith) (b_return_call (worker_index P g) low)
 

@@ -2,7 +2,7 @@
 use Rattle.std.proofs.Common.{◌≡◌, ℕ, zero, suc, ◌+◌, ◌*◌, ◌/◌, ◌<◌, ◌≤◌, List, [], ◌∷◌, ◌++◌, length, take, drop, get_or, Bool, true, false, refl, ap, sym, ◌∙◌, arith}
 use Rattle.std.proofs.Math.Seq.{take-append_seam, drop-append_seam}
 use Rattle.std.proofs.lemmas.List.{drop_all, take_more}
-use Rattle.std.proofs.lemmas.Bool.{eqb-true, le-leb, lt-leb, leb-true, leb-false}
+use Rattle.std.proofs.lemmas.Bool.{and_parts, eqb-true, le-leb, lt-leb, leb-true, leb-false}
 use Rattle.std.specs.Prelude.{if◌then◌else◌, nat_eq, nat_le, nat_lt, ◌||◌, ◌&&◌}
 use Rattle.anf_convert.specs.declared.program.Atom.{Atom}
 use Rattle.closure_lift.specs.Lifted.{OCase, BranchBlocks, OpBound}
@@ -10,17 +10,17 @@ use Rattle.closure_lift.specs.LiftedView.{branches_of}
 use Rattle.closure_lift.specs.LiftedWeight.{branches_weight}
 use Rattle.closure_lift.specs.declared.program.Lifted.{Lifted}
 use Rattle.closure_lift.specs.declared.program.LiftedBranch.{LiftedBranch}
+use Rattle.closure_lift.proofs.Noting.{next_of}
 use Rattle.wasm_core.specs.declared.instrs.Instr.{Instr}
 use Rattle.wasm_core.specs.declared.instrs.I32Op.TheVariants as op32
 use Rattle.wasm_core.specs.declared.instrs.Instr.TheVariants.{Else, End, LocalGet, LocalSet, I32 as Operation}
 use Rattle.wasm_emit.specs.EmittedCode.{Load, ConstWord, IfWord}
 use Rattle.wasm_emit.specs.Pushed.{Pushed, ends}
-use Rattle.wasm_emit.proofs.Pushing.{next_of, ends_sum}
+use Rattle.wasm_emit.proofs.Pushing.{ends_sum}
 use Rattle.known_calls.specs.KnownPlaces.{Place}
 use Rattle.known_calls.specs.KnownTests.{Kind, Bare, Fielded, Alternative, Position, deeper, is_of, keep, is_some, first_number, equal_test, below_test, bare_test, arm, none, chain, many_alternatives, are_many, most_rounds, search}
 use Rattle.known_calls.specs.KnownCode.{atom}
 use Rattle.known_calls.specs.KnownPushed.{under_position, op_code, branch_code, alternative_of, kind_of, search_code, alone_code, few_bare_code, both_kinds_code, branches_code, counted, count_of, begins_with, is_last_of, TestedArms, ToldArms, OneArm}
-use Rattle.known_calls.proofs.Unreading.{and_true}
 use Rattle.known_calls.proofs.KnownPushing.{under_one, under_none, under_sum}
 
 differ : false ≡ true → ⊥
@@ -62,7 +62,7 @@ last_not k n more e is = one (count_of k more) (ap (λ (b : Bool). b && nat_eq (
 -- a part that is told by halves, and one that isn't
 pub by_halves_is : (rounds n : ℕ) → nat_lt 0 rounds && nat_le many_alternatives n ≡ true → (0 < rounds) × (6 ≤ n)
 by_halves_is rounds n e =
-    let h = and_true (nat_lt 0 rounds) (nat_le many_alternatives n) e in
+    let h = and_parts (nat_lt 0 rounds) (nat_le many_alternatives n) e in
     let some = leb-true 1 rounds h.0 in
     let many = leb-true many_alternatives n h.1 in
     (omega (arith, some), omega (arith, many))

@@ -17,8 +17,8 @@ use Rattle.wasm_emit.specs.EmittedLocals.{top}
 use Rattle.wasm_emit.specs.EmittedModule.{room_function, box_function, body}
 use Rattle.wasm_emit.specs.EmittedBodies.{FewInFunction, FewInBlock, FewLocals}
 use Rattle.wasm_emit.specs.Pushed.{Pushed, function_in}
-use Rattle.wasm_emit.proofs.Pushing.{constant_next, next_of, top_renumbered, only_pushed, then_pushed}
-use Rattle.wasm_emit.proofs.Listed.{same_body, functions_in, constants_in, one_more}
+use Rattle.wasm_emit.proofs.Pushing.{constant_next, top_renumbered, only_pushed, then_pushed}
+use Rattle.wasm_emit.proofs.Listed.{same_body, functions_in, constants_in, next_function, one_more}
 use Rattle.known_calls.specs.KnownPlaces.{Place, At, InLocal, fields_of}
 use Rattle.known_calls.specs.KnownCode.{Inside, Final, InTail, worker_index, code}
 use Rattle.known_calls.specs.KnownModule.{params, captured_words, wide_body, stub_code, entry, worker_code, worker, numbered, constant, main_function}
@@ -82,14 +82,11 @@ call_made Q k n locals o1 o2 o3 o4 e most x y z w =
 
 -- the functions from the next one on, with their numbers
 module _ (Q : Lifted) (h : ℕ → Fn → Body) (items : List Function) (i : ℕ) (f : Function) (lt : i < length items) (is : f ≡ get_or items i f) where
-  next_function : functions_in Q (drop i items) ≡ function_in Q f ∷ functions_in Q (drop (i + 1) items)
-  next_function = ap (λ (xs : List Function). functions_in Q xs) (next_of items i f lt is)
-
   pub numbered_more : (a : Body) (v w out : List Body) → a ≡ h i (function_in Q f) → w ≡ v ++ a ∷ [] → v ++ numbered h i (functions_in Q (drop i items)) ≡ out → w ++ numbered h (i + 1) (functions_in Q (drop (i + 1) items)) ≡ out
   numbered_more a v w out made more inv =
       let s : i + 1 ≡ suc i = omega arith in
       ap (λ (j : ℕ). w ++ numbered h j (functions_in Q (drop (i + 1) items))) s
-      ∙ one_more v w a (h i (function_in Q f)) (numbered h (suc i) (functions_in Q (drop (i + 1) items))) out more made (ap (λ (fs : List Fn). v ++ numbered h i fs) (sym next_function) ∙ inv)
+      ∙ one_more v w a (h i (function_in Q f)) (numbered h (suc i) (functions_in Q (drop (i + 1) items))) out more made (ap (λ (fs : List Fn). v ++ numbered h i fs) (sym (next_function Q items i f lt is)) ∙ inv)
 
 -- the constants from the next one on
 pub constants_more : (Q : Lifted) (h : Block → Body) (slice : List LiftedConstant) (k : ℕ) (c : LiftedConstant) → reverse slice ≡ Q.constants → k < length slice → c ≡ get_or slice (length slice - 1 - k) c → (a : Body) (v w out : List Body) →

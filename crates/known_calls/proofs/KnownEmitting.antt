@@ -1,5 +1,6 @@
 -- The parts of modules with workers, and that emission's modules are valid and fit.
 use Rattle.std.proofs.Common.{◌≡◌, ℕ, suc, ◌+◌, ◌-◌, ◌<◌, ◌≤◌, List, [], ◌∷◌, ◌++◌, append_assoc, length, map, max, replicate, Some, Bool, true, false, refl, ap, sym, ◌∙◌, arith}
+use Rattle.std.proofs.lemmas.List.{length-map}
 use Rattle.std.specs.Prelude.{nat_le, if◌then◌else◌}
 use Rattle.closure_lift.specs.Lifted.{Block, Fn, Program}
 use Rattle.closure_lift.specs.LiftedProgram.{renumber, place_in, lifted_of}
@@ -19,8 +20,7 @@ use Rattle.wasm_emit.specs.CallModule.{call_exports}
 use Rattle.wasm_emit.specs.EmittedModule.{entries, main_index}
 use Rattle.wasm_emit.specs.Emission.{Emits, exports_with}
 use Rattle.wasm_emit.specs.EmittedBodies.{FewLocals}
-use Rattle.wasm_emit.proofs.Pushing.{renumbered_count, functions_count}
-use Rattle.wasm_emit.proofs.Indices.{length_map}
+use Rattle.closure_lift.proofs.Counted.{functions_length, renumbered_length}
 use Rattle.wasm_emit.proofs.Emitting.{times, counts_fit}
 use Rattle.known_calls.specs.KnownCode.{is_wide}
 use Rattle.known_calls.specs.KnownModule.{words_type, words_types, widest_worker, worker_type, numbered, main_function, module_of}
@@ -71,8 +71,8 @@ pub funcs_made : (Q : Lifted) (items : List Function) (n k : ℕ) (v0 v1 v2 v3 v
     v4 ≡ v3 ++ worker_types ((lifted_of Q).functions) → v4 ≡ (module_of (lifted_of Q) 0).funcs
 funcs_made Q items n k v0 v1 v2 v3 v4 same en ek e0 e1 e2 e3 e4 =
     let P = lifted_of Q in
-    let cn : n ≡ length P.functions = en ∙ sym (functions_count items) ∙ ap length same ∙ sym (renumbered_count (place_in Q.constants) Q.functions) in
-    let ck : k ≡ length P.constants = ek ∙ sym (length_map (λ (c : LiftedConstant). renumber (place_in Q.constants) c.body) Q.constants) in
+    let cn : n ≡ length P.functions = en ∙ sym (functions_length items) ∙ ap length same ∙ sym (renumbered_length (place_in Q.constants) Q.functions) in
+    let ck : k ≡ length P.constants = ek ∙ sym (length-map Q.constants (λ (c : LiftedConstant). renumber (place_in Q.constants) c.body)) in
     let fs : replicate {A = ℕ} n 2 ≡ numbered (λ g f. 2) 0 P.functions = ap (λ (j : ℕ). replicate j 2) cn ∙ all_twos 0 P.functions in
     let cs : replicate {A = ℕ} k 1 ≡ map (λ (t : Block). 1) P.constants = ap (λ (j : ℕ). replicate j 1) ck ∙ times 1 P.constants in
     let xs = numbered (λ g f. 2) 0 P.functions in

@@ -11,7 +11,7 @@ use Rattle.closure_lift.specs.LiftedView.{bounds_of, functions_of}
 use Rattle.closure_lift.specs.declared.program.LiftedOp.{LiftedOp}
 use Rattle.closure_lift.specs.declared.program.Function.{Function}
 use Rattle.closure_lift.specs.declared.program.LiftedConstant.{LiftedConstant}
-use Rattle.wasm_emit.proofs.Pushing.{next_of}
+use Rattle.closure_lift.proofs.Noting.{next_of}
 use Rattle.known_calls.specs.KnownPlaces.{Word, Place, Known, word_of, words_of}
 use Rattle.known_calls.specs.KnownCode.{known_closure, closure_alone}
 

@@ -1,6 +1,6 @@
 -- The emitted instructions follow the evaluation of the lifted program.
 use Rattle.std.proofs.Common.{◌≡◌, ℕ, zero, suc, ◌+◌, ◌-◌, ◌*◌, ◌<◌, ◌≤◌, List, [], ◌∷◌, ◌++◌, length, length-append, Option, Some, None, Bool, true, false, refl, ap, sym, ◌∙◌, subst, arith}
-use Rattle.std.proofs.lemmas.Bool.{eqb-true}
+use Rattle.std.proofs.lemmas.Bool.{and_parts, eqb-true}
 use Rattle.std.proofs.lemmas.List.{length-reverse}
 use Rattle.std.proofs.lemmas.Option.{slice_get_within, slice_get-get_or}
 use Rattle.std.specs.Prelude.{slice_get, slice_set, reverse, nat_eq, nat_le, if◌then◌else◌}
@@ -36,7 +36,7 @@ use Rattle.known_calls.specs.KnownCode.{Position, Inside, InTail, is_wide, into_
 use Rattle.known_calls.specs.KnownModule.{params, captured_words, module_with, stub_code, worker_code}
 use Rattle.known_calls.specs.KnownCalls.{applied}
 use Rattle.known_calls.proofs.KnownHolds.{in_local, in_field, Words, words_length, Env, env_nil, env_at, env_known, env_on, Unread, OpUnread, Stood, stood_inside, stood_in_tail, stood_up, loop_of, stood_final}
-use Rattle.known_calls.proofs.Unreading.{neither, and_true, unmade_some, not_read, unread_known, unread_at, unread_moved, unread_let_atom, unread_op, unread_branch}
+use Rattle.known_calls.proofs.Unreading.{neither, unmade_some, not_read, unread_known, unread_at, unread_moved, unread_let_atom, unread_op, unread_branch}
 use Rattle.known_calls.proofs.Finding.{There, there, there_unknown, same_some}
 use Rattle.known_calls.proofs.Knowing.{known_is, calls, same_function, same_captured, no_box}
 use Rattle.known_calls.proofs.KnownMaking.{WordsStand, stand_more, words, stand_size, put_atom, pushed, made, new_made}
@@ -214,7 +214,7 @@ module _ (P : Program) (main : Body) (gs : List GlobalDef) (es : List Export) (p
         either false h0 depth e stood' wa ws all many = called (InTail h0 depth) stood' wa ws all
         either true h0 depth e stood' wa ws all many =
             subst (λ (x : ℕ). Within M cap Q (k + l) (cost c b + 14 + u) (here cap F m p h ls (words (wa ∷ ws) ++ vals) (into_params x (Br depth ∷ rest)))) (sym many)
-            (jump_follows vals rest few all (has_room D F ls vals rest stood' deep) (subst (λ (x : ℕ). Stood P (InTail x depth) tail d (length ls) F.keeps F.labels) (sym (eqb-true g h0 (and_true (nat_eq g h0) (nat_le depth most_blocks) e).0)) stood') has out)
+            (jump_follows vals rest few all (has_room D F ls vals rest stood' deep) (subst (λ (x : ℕ). Stood P (InTail x depth) tail d (length ls) F.keeps F.labels) (sym (eqb-true g h0 (and_parts (nat_eq g h0) (nat_le depth most_blocks) e).0)) stood') has out)
 
         turned : (at' : Position) → Stood P at' tail d (length ls) F.keeps F.labels → (wa : ℕ) (ws : List ℕ) → WordsStand m h (wa ∷ ws) (VCons v e') → length us ≡ fn.captured →
             Within M cap Q (k + l) (cost c b + 14 + u) (here cap F m p h ls (words (wa ∷ ws) ++ vals) (call_worker P at' g (length us) rest))

@@ -1,6 +1,7 @@
 -- Where a module with workers has its functions, their types, and the entries of its table.
-use Rattle.std.proofs.Common.{◌≡◌, ℕ, zero, suc, ◌+◌, ◌-◌, ◌<◌, ◌≤◌, List, [], ◌∷◌, ◌++◌, length, map, Some, Bool, true, false, refl, ap, ◌∙◌, arith, length-append}
+use Rattle.std.proofs.Common.{◌≡◌, ℕ, zero, suc, ◌+◌, ◌-◌, ◌<◌, ◌≤◌, List, [], ◌∷◌, ◌++◌, length, map, Some, Bool, true, false, refl, ap, ◌∙◌, subst, arith, length-append}
 use Rattle.std.proofs.lemmas.Bool.{leb-true, leb-false}
+use Rattle.std.proofs.lemmas.List.{length-map}
 use Rattle.std.proofs.lemmas.Option.{slice_get-map}
 use Rattle.std.specs.Option.{option_map}
 use Rattle.std.specs.Prelude.{slice_get, max, if◌then◌else◌}
@@ -15,7 +16,7 @@ use Rattle.closure_lift.specs.Lifted.{Block, Program, Fn}
 use Rattle.wasm_emit.specs.EmittedModule.{main_index, body, type_main, type_constant, type_function}
 use Rattle.wasm_emit.specs.EmittedCode.{constant_index}
 use Rattle.wasm_emit.specs.EmittedLocals.{top}
-use Rattle.wasm_emit.proofs.Indices.{at_append, at_front, length_map, func_is, table_at}
+use Rattle.wasm_emit.proofs.Indices.{at_append, at_front, func_is, table_at}
 use Rattle.known_calls.specs.KnownCode.{is_wide, worker_index}
 use Rattle.known_calls.specs.KnownModule.{words_type, words_types, widest_worker, wide_body, stub_code, entry, worker_code, worker, worker_type, numbered, constant, in_order, module_with}
 
@@ -28,6 +29,10 @@ not_wide fn few = cases (is_wide fn) refl
 
 pub narrow_few : (fn : Fn) → is_wide fn ≡ false → fn.captured ≤ 7
 narrow_few fn e = omega (arith, leb-false 8 fn.captured e)
+
+-- a function by its number, where that is counted from 0
+pub same_number : (fs : List Fn) (g j : ℕ) (x : Fn) → slice_get fs g ≡ Some x → j ≡ 0 + g → slice_get fs j ≡ Some x
+same_number fs g j x at is = let z : g ≡ j = omega arith in subst (λ (i : ℕ). slice_get fs i ≡ Some x) z at
 
 pub numbered_length : {A : Type 0} (make : ℕ → Fn → A) (i : ℕ) (fs : List Fn) → length (numbered make i fs) ≡ length fs
 numbered_length make i [] = refl
@@ -101,19 +106,19 @@ module _ {A : Type 0} (P : Program) (of_entry : ℕ → Fn → A) (of_constant :
   pub main_in : slice_get (in_order P of_entry of_constant of_main of_worker) (length P.functions + length P.constants) ≡ Some of_main
   main_in =
       at_append (numbered of_entry 0 P.functions) from_constants (length P.functions + length P.constants) (length P.constants) (omega (arith, numbered_length of_entry 0 P.functions))
-      ∙ at_append (map of_constant P.constants) from_main (length P.constants) 0 (omega (arith, length_map of_constant P.constants))
+      ∙ at_append (map of_constant P.constants) from_main (length P.constants) 0 (omega (arith, length-map P.constants of_constant))
 
   pub worker_in : (g : ℕ) (fn : Fn) → slice_get P.functions g ≡ Some fn → slice_get (in_order P of_entry of_constant of_main of_worker) (suc (length P.functions + (length P.constants + g))) ≡ Some (of_worker g fn)
   worker_in g fn e =
       at_append (numbered of_entry 0 P.functions) from_constants (suc (length P.functions + (length P.constants + g))) (suc (length P.constants + g)) (omega (arith, numbered_length of_entry 0 P.functions))
-      ∙ at_append (map of_constant P.constants) from_main (suc (length P.constants + g)) (suc g) (omega (arith, length_map of_constant P.constants))
+      ∙ at_append (map of_constant P.constants) from_main (suc (length P.constants + g)) (suc g) (omega (arith, length-map P.constants of_constant))
       ∙ numbered_at of_worker 0 g g P.functions (omega arith) e
 
   pub order_length : length (in_order P of_entry of_constant of_main of_worker) ≡ suc (length P.functions + length P.constants + length P.functions)
   order_length =
       let a = length-append (numbered of_entry 0 P.functions) from_constants in
       let b = length-append (map of_constant P.constants) from_main in
-      omega (arith, a, b, numbered_length of_entry 0 P.functions, length_map of_constant P.constants, numbered_length of_worker 0 P.functions)
+      omega (arith, a, b, numbered_length of_entry 0 P.functions, length-map P.constants of_constant, numbered_length of_worker 0 P.functions)
 
 module _ (P : Program) (main : Body) (gs : List GlobalDef) (es : List Export) (pages : ℕ) where
   pub constant_at : (x : ℕ) (t : Block) → slice_get P.constants x ≡ Some t → func_of (module_with P main gs es pages) (constant_index P x) ≡ Some (record { type = type_constant; body = constant P t })

@@ -1,5 +1,6 @@
 -- A lifted program is no heavier than the program in A-normal form, by the weights of modules with workers.
 use Rattle.std.proofs.Common.{◌≡◌, ℕ, zero, suc, ◌+◌, ◌-◌, ◌≤◌, List, [], ◌∷◌, ◌++◌, length, map, arith}
+use Rattle.std.proofs.lemmas.List.{length-map}
 use Rattle.std.specs.Prelude.{get_or}
 use Rattle.anf_convert.specs.declared.program.Atom.{Atom}
 use Rattle.anf_convert.specs.declared.program.Atom.TheVariants.{Var as AVar, Box as ABox, Empty as AEmpty}
@@ -9,7 +10,6 @@ use Rattle.closure_lift.specs.Lifted.{Block, Let, Ret, LetAtom, RetAtom, Fn}
 use Rattle.closure_lift.specs.Lift.{LiftSlot, Holds, Made, held, atom, closure_for, closure, closures, atoms_of, block_functions, op_functions, numbered, unnumbered, holding, lift_op, lift_block, lift_branches, def_functions, functions_op, functions_block, functions_branches, functions_defs, lift_constants, functions_constants, constants_functions}
 use Rattle.closure_lift.specs.CapturedLimit.{OpCaptures, BlockCaptures, BranchesCapture, DefsCapture, BlocksCapture}
 use Rattle.known_calls.specs.KnownWeight.{atom_weight, atoms_weight, op_weight, weight, branches_weight, functions_weight, constants_weight, normal_op_weight, normal_weight, normal_branches_weight, normal_defs_weight, normal_constants_weight, LiftedIsLight}
-use Rattle.wasm_emit.proofs.Indices.{length_map}
 
 functions_join : (fs gs : List Fn) → functions_weight (fs ++ gs) ≡ functions_weight fs + functions_weight gs
 functions_join [] gs = omega arith
@@ -46,7 +46,7 @@ module _ (c : ℕ) where
   for_light : (fr : List LiftSlot) (i g n : ℕ) (k : Entry) (next : List LiftSlot → Block) → EntryFew k → ((fr' : List LiftSlot) → weight (next fr') ≤ n) → weight (closure_for fr i g k next) ≤ atom_weight c + n
   for_light fr i g n Unbound next few h = omega (arith, h fr)
   for_light fr i g n (Word x) next few h = omega (arith, h fr)
-  for_light fr i g n (Words ws) next few h = omega (arith, few, h (Made i ∷ fr), length_map (held fr) ws)
+  for_light fr i g n (Words ws) next few h = omega (arith, few, h (Made i ∷ fr), length-map ws (held fr))
 
   closure_light : (s : Scope) (gs : List ℕ) (fr : List LiftSlot) (n : ℕ) (a : Atom) (next : List LiftSlot → Block) → ScopeFew s → ((fr' : List LiftSlot) → weight (next fr') ≤ n) → weight (closure s gs fr a next) ≤ atom_weight c + n
   closure_light s gs fr n (AVar i) next few h = for_light fr i (get_or gs i 0) n (entry s i) next (entry_few s i few) h
@@ -64,19 +64,19 @@ module _ (c : ℕ) where
         op_weight (lift_op s gs fr g op) + functions_weight (functions_op s gs g op) + atoms_weight c (atoms_of op) ≤ normal_op_weight c op
     op_light s gs fr g (ConstOp x) few ok = omega arith
     op_light s gs fr g (AppOp f a) few ok = omega arith
-    op_light s gs fr g (ConOp k as') few ok = omega (arith, length_map (atom s fr) as')
+    op_light s gs fr g (ConOp k as') few ok = omega (arith, length-map as' (atom s fr))
     op_light s gs fr g (LamOp b) few ok =
         let ws = lam_captured s b in
         let h = block_light (Plain s) (0 ∷ gs) (Holds (depth s) ∷ map (λ x. Holds x) ws) (suc g) b few ok.1 in
         let l = ok.0 in
-        omega (arith, h, l, length_map (held fr) ws)
+        omega (arith, h, l, length-map ws (held fr))
     op_light s gs fr g (FixOp ds i) few ok =
         let ws = fix_captured s ds in
         let n = def_count ds in
         let l = ok.0 in
         let h = defs_light (shares ws n s) (numbered g n gs) ws (g + n) ds (shares_few ws n s (omega (arith, l)) few) ok.1 in
         let j = functions_join (def_functions (shares ws n s) (numbered g n gs) ws (g + n) ds) (functions_defs (shares ws n s) (numbered g n gs) (g + n) ds) in
-        omega (arith, h, j, l, length_map (held fr) ws)
+        omega (arith, h, j, l, length-map ws (held fr))
     op_light s gs fr g (CaseOp a bs) few ok = omega (arith, branches_light s gs fr g bs few ok)
 
     block_light : (s : Scope) (gs : List ℕ) (fr : List LiftSlot) (g : ℕ) (t : AnfBlock) → ScopeFew s → BlockCaptures (suc c) s t →

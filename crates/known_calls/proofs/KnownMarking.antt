@@ -11,7 +11,7 @@ use Rattle.closure_lift.specs.LiftedProgram.{renumber_op, renumber, renumber_bra
 use Rattle.closure_lift.specs.LiftedView.{seen, bounds_of, branches_of}
 use Rattle.closure_lift.specs.declared.program.LiftedBranch.{LiftedBranch}
 use Rattle.closure_lift.specs.declared.program.LiftedOp.{LiftedOp}
-use Rattle.wasm_emit.proofs.Pushing.{next_of}
+use Rattle.closure_lift.proofs.Noting.{next_of}
 use Rattle.known_calls.specs.KnownPlaces.{Times, Never, Once, More, ◌plus◌, is_read, is_twice, names, some_names, op_reads, block_reads, branches_read}
 use Rattle.known_calls.specs.KnownTests.{Kind, Bare, Fielded, is_of}
 use Rattle.known_calls.specs.KnownCode.{moves}

@@ -9,12 +9,12 @@ use Rattle.closure_lift.specs.LiftedView.{seen, bounds_of}
 use Rattle.closure_lift.specs.declared.program.Lifted.{Lifted}
 use Rattle.closure_lift.specs.declared.program.LiftedBranch.{LiftedBranch}
 use Rattle.closure_lift.specs.declared.program.LiftedOp.{LiftedOp}
+use Rattle.closure_lift.proofs.Noting.{next_of}
 use Rattle.wasm_core.specs.declared.instrs.I32Op.TheVariants as op32
 use Rattle.wasm_core.specs.declared.instrs.Instr.{Instr}
 use Rattle.wasm_core.specs.declared.instrs.Instr.TheVariants.{LocalGet, LocalSet, LocalTee, GlobalGet, GlobalSet, I32 as Operation}
 use Rattle.wasm_emit.specs.EmittedCode.{ConstWord, StoreWord, ensure_room}
 use Rattle.wasm_emit.specs.Pushed.{Pushed, renumber_bound}
-use Rattle.wasm_emit.proofs.Pushing.{next_of}
 use Rattle.known_calls.specs.KnownPlaces.{Place, At, InLocal, Times, is_read, is_twice, block_reads}
 use Rattle.known_calls.specs.KnownCode.{Position, Inside, InTail, deeper, choose, known, into_params, atom, fill, new_block, into_local, moves, move_field, branch_places, op, code, Final}
 use Rattle.known_calls.specs.KnownPushed.{under_position, bound_code, bound_unmade, place_bound, local_behind, bind_code, op_unmade, binding_code, block_code, branch_code}

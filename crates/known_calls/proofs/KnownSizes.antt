@@ -1,5 +1,5 @@
 -- How long the bytes of a module with workers are.
-use Rattle.std.proofs.Common.{◌≡◌, ℕ, zero, suc, ◌+◌, ◌-◌, ◌*◌, ◌≤◌, List, [], ◌∷◌, ◌++◌, length, map, Some, Bool, true, false, refl, subst, arith}
+use Rattle.std.proofs.Common.{◌≡◌, ℕ, zero, suc, ◌+◌, ◌-◌, ◌*◌, ◌≤◌, List, [], ◌∷◌, ◌++◌, length, map, Some, Bool, true, false, refl, arith}
 use Rattle.std.specs.Prelude.{slice_get, if◌then◌else◌}
 use Rattle.wasm_core.specs.declared.types.ValType.TheVariants.{I32}
 use Rattle.wasm_core.specs.declared.instrs.BlockType.TheVariants.{Value}
@@ -21,7 +21,7 @@ use Rattle.known_calls.specs.KnownPlaces.{At, InLocal, fields_of}
 use Rattle.known_calls.specs.KnownCode.{Inside, Final, is_wide, code}
 use Rattle.known_calls.specs.KnownModule.{words_type, words_types, widest_worker, wide_body, stub_code, entry, worker_code, worker, worker_type, numbered, constant, main_function, module_with}
 use Rattle.known_calls.specs.KnownWeight.{op_weight, weight, branches_weight, functions_weight, constants_weight, KnownSized, LocalsBound}
-use Rattle.known_calls.proofs.KnownIndices.{narrow_few, widest_few, order_length}
+use Rattle.known_calls.proofs.KnownIndices.{narrow_few, same_number, widest_few, order_length}
 use Rattle.known_calls.proofs.Bounded.{b_code}
 use Rattle.known_calls.proofs.KnownSpelling.{b_stub, b_wide, b_loop_of}
 
@@ -77,9 +77,6 @@ module _ (P : Program) (m : ℕ) (form : Formed P m) (counts : CountsFit P m) (l
   unfolding put_all
   workers_size from [] w h = omega arith
   workers_size from (f ∷ fs) w h = omega (arith, worker_size from f (put_all put_body (numbered (worker P) (suc from) fs) w) (h 0 from f refl (omega arith)), workers_size (suc from) fs w (λ g j fn e is. h (suc g) j fn e (omega arith)))
-
-  same_number : (g j : ℕ) (x : Fn) → slice_get P.functions g ≡ Some x → j ≡ 0 + g → slice_get P.functions j ≡ Some x
-  same_number g j x at is = let z : g ≡ j = omega arith in subst (λ (i : ℕ). slice_get P.functions i ≡ Some x) z at
 
   constant_size : (i : ℕ) (t : Block) (w : List ℕ) → slice_get P.constants i ≡ Some t → length (put_body (constant P t) w) ≤ 18 + weight t + length w
   constant_size i t w at =
@@ -142,11 +139,11 @@ module _ (P : Program) (main : Body) (gs : List GlobalDef) (es : List Export) (p
       omega (
         arith,
         first_bodies rest,
-        entries_size P m form counts limits 0 P.functions from_constants [] (same_number P m form counts limits),
+        entries_size P m form counts limits 0 P.functions from_constants [] (same_number P.functions),
         constants_size P m form counts limits P.constants from_main [] (λ i t w at. constant_size P m form counts limits i t w at),
         main_body main workers,
         main_size (put_all put_body workers []),
-        workers_size P m form counts limits 0 P.functions [] (same_number P m form counts limits),
+        workers_size P m form counts limits 0 P.functions [] (same_number P.functions),
         pairs_bytes P m form counts limits P.functions,
       )
 

@@ -1,5 +1,5 @@
 -- The numbers of a module with workers fit its format, so that bytes can spell it.
-use Rattle.std.proofs.Common.{◌≡◌, ℕ, zero, suc, ◌+◌, ◌-◌, ◌*◌, ◌<◌, ◌≤◌, List, [], ◌∷◌, ◌++◌, length, max, Some, Bool, true, false, refl, arith, rules, subst}
+use Rattle.std.proofs.Common.{◌≡◌, ℕ, zero, suc, ◌+◌, ◌-◌, ◌*◌, ◌<◌, ◌≤◌, List, [], ◌∷◌, ◌++◌, length, max, Some, Bool, true, false, refl, arith, rules}
 use Rattle.std.specs.Prelude.{slice_get, if◌then◌else◌}
 use Rattle.std.proofs.lemmas.List.{length-replicate}
 use Rattle.std.proofs.lemmas.Option.{slice_get_within}
@@ -30,7 +30,7 @@ use Rattle.known_calls.specs.KnownLaws.{KnownSpelled}
 use Rattle.known_calls.specs.KnownWeight.{weight}
 use Rattle.known_calls.proofs.SameLocals.{worker_top}
 use Rattle.known_calls.proofs.Fitting.{fields_fit, params_fit}
-use Rattle.known_calls.proofs.KnownIndices.{narrow_few, widest_few, words_types_length, order_length}
+use Rattle.known_calls.proofs.KnownIndices.{narrow_few, same_number, widest_few, words_types_length, order_length}
 use Rattle.known_calls.proofs.KnownValidity.{entry_typed, worker_typed, constant_typed, main_typed, call_typed, box_typed, room_typed}
 use Rattle.known_calls.proofs.Bounded.{Bounded, ◌then◌, b_most, b_get, b_get_global, b_set, b_load, b_return_call, b_end, b_loop, b_captured, b_op, b_code}
 
@@ -93,9 +93,6 @@ module _ (P : Program) (main : Body) (gs : List GlobalDef) (es : List Export) (p
       body_fits M 1 (top 0 t) (code P [] 0 Final t (End ∷ [])) (counts.bodies x t at) (constant_typed P m form main gs es pages t (form.constants x t at))
       ((b_code P m form counts limits 0 0 [] Final t (omega (arith, counts.bodies x t at)) tt (form.constants x t at)).spelled (fits tt good))
 
-  same_number : (g j : ℕ) (x : Fn) → slice_get P.functions g ≡ Some x → j ≡ 0 + g → slice_get P.functions j ≡ Some x
-  same_number g j x at is = let z : g ≡ j = omega arith in subst (λ (i : ℕ). slice_get P.functions i ≡ Some x) z at
-
   type_fits : (fn : Fn) → IsU32 (worker_type fn)
   type_fits fn = either (is_wide fn) refl
     where
@@ -108,8 +105,8 @@ module _ (P : Program) (main : Body) (gs : List GlobalDef) (es : List Export) (p
     body_fits M 0 0 room_code (omega arith) (room_typed P m form main gs es pages) room_good,
     (
       body_fits M 2 0 (ConstWord 0 ∷ End ∷ []) (omega arith) (box_typed P m form main gs es pages) (fits (omega arith) (fits tt good)),
-      numbered_then IsBody (entry P) 0 P.functions _ (λ g j x at is. entry_fits j x (same_number g j x at is))
-          (all_then IsBody (constant P) P.constants _ (λ i t at. constant_fits i t at) (main_fits, numbered_all IsBody (worker P) 0 P.functions (λ g j x at is. worker_fits j x (same_number g j x at is)))),
+      numbered_then IsBody (entry P) 0 P.functions _ (λ g j x at is. entry_fits j x (same_number P.functions g j x at is))
+          (all_then IsBody (constant P) P.constants _ (λ i t at. constant_fits i t at) (main_fits, numbered_all IsBody (worker P) 0 P.functions (λ g j x at is. worker_fits j x (same_number P.functions g j x at is)))),
     ),
   )
 

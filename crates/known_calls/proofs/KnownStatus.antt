@@ -1,6 +1,7 @@
 -- The functions of a module with workers set the status only from a test of a grow, so every run is honest.
 use Rattle.std.proofs.Common.{◌≡◌, ℕ, zero, suc, ◌-◌, List, [], ◌∷◌, ◌++◌, map, Some, Bool, true, false, refl, ap, sym, ◌∙◌, subst, arith}
 use Rattle.std.specs.Prelude.{slice_get, if◌then◌else◌}
+use Rattle.std.proofs.lemmas.Option.{same_Some}
 use Rattle.wasm_core.specs.declared.types.ValType.TheVariants as type
 use Rattle.wasm_core.specs.declared.types.ConstValue.{ConstValue}
 use Rattle.wasm_core.specs.declared.types.ConstValue.TheVariants.{I32}
@@ -13,7 +14,7 @@ use Rattle.wasm_core.specs.declared.instrs.Body.{Body}
 use Rattle.wasm_core.specs.MachineStep.{At}
 use Rattle.wasm_core.specs.Runs.{store_of}
 use Rattle.wasm_core.specs.Answer.{i32_of}
-use Rattle.wasm_core.proofs.Small.{inj, no, some_of}
+use Rattle.wasm_core.proofs.Small.{no, some_of}
 use Rattle.anf_convert.specs.declared.program.Atom.TheVariants.{Var as AVar}
 use Rattle.closure_lift.specs.Lifted.{OApp, Fn, Program}
 use Rattle.wasm_emit.specs.CallLaws.{call_start}
@@ -74,7 +75,7 @@ all_wary P main gs es pages wm (suc (suc f)) g e =
 
 pub status_tells : KnownStatusTells
 status_tells P pages first n t small start r one =
-    let first_is : first_of P pages ≡ first = inj (sym (starts P pages) ∙ start) in
+    let first_is : first_of P pages ≡ first = same_Some _ _ (sym (starts P pages) ∙ start) in
     let begins : HonestState (first_of P pages) = record { now = at_wary (main_wary P); labels = tt; callers = tt; status = λ e. absurd (no_one e); pages = omega arith } in
     let h = stays (module_of P pages) (of_bodies (module_of P pages) (all_wary P (main_function P) [] [] pages (main_wary P))) (omega arith) n first t (subst HonestState first_is begins) r in
     let (v, e1, e2) = some_of i32_of (slice_get (store_of t).globals 1) 1 one in

@@ -1,6 +1,6 @@
 -- Emitted code has a typing.
 use Rattle.std.proofs.Common.{◌≡◌, ℕ, zero, suc, ◌+◌, ◌/◌, ◌<◌, ◌≤◌, List, [], ◌∷◌, ◌++◌, length, take, drop, replicate, Option, Some, None, Bool, true, false, refl, ap, sym, ◌∙◌, subst, arith, get_or}
-use Rattle.std.proofs.lemmas.Bool.{eqb-true}
+use Rattle.std.proofs.lemmas.Bool.{and_parts, eqb-true}
 use Rattle.std.proofs.lemmas.Option.{slice_get-get_or}
 use Rattle.std.specs.Option.{option_map, option_and_then}
 use Rattle.std.specs.Prelude.{slice_get, reverse, max, nat_eq, nat_le, if◌then◌else◌, ◌||◌}
@@ -22,14 +22,14 @@ use Rattle.closure_lift.specs.LiftedForm.{OpFits, LiftedBlockFits, BranchesFit, 
 use Rattle.wasm_emit.specs.EmittedCode.{IfWord, constant_index, ensure_room}
 use Rattle.wasm_emit.specs.EmittedLocals.{top, top_op, top_branches}
 use Rattle.known_calls.specs.KnownPlaces.{Word, InLocal, InField, IsConst, Place, At, word_of, known_function, is_read, block_reads}
-use Rattle.known_calls.specs.KnownCode.{Position, Inside, InTail, deeper, worker_index, jumps, most_blocks, read_word, read, atom, push_words, fill, new_block, block, into_local, into_params, call_worker, application, choose, unmade, known, moves, move_field, branch_places, op, code, alternatives, branch, Final, call_of, closure_call}
+use Rattle.known_calls.specs.KnownCode.{Position, Inside, InTail, deeper, worker_index, jumps, most_blocks, read_word, read, atom, push_words, fill, new_block, block, into_local, into_params, call_worker, application, choose, unmade, known, moves, move_field, branch_places, op, code, alternatives, Final, call_of, closure_call}
 use Rattle.known_calls.specs.KnownModule.{words_type, worker_type, module_with}
 use Rattle.known_calls.specs.KnownTests.{Kind, Bare, Fielded, Alternative, kept, is_some, first_number, equal_test, below_test, bare_test, arm, none, chain, are_many, most_rounds, search, tests}
 use Rattle.known_calls.proofs.Parted.{all_kept, all_take, all_drop}
 use Rattle.known_calls.proofs.Shapes.{Shaped, Wherever, shaped_none, shaped_chain, shaped_search, shaped_alternatives}
 use Rattle.known_calls.proofs.Finding.{same_some}
 use Rattle.known_calls.proofs.Fitting.{WordFits, PlaceFits, places_up, branch_fit, word_fits, function_fits, known_fits}
-use Rattle.known_calls.proofs.Unreading.{and_true, unmade_some}
+use Rattle.known_calls.proofs.Unreading.{unmade_some}
 use Rattle.known_calls.proofs.SameLocals.{top_less}
 use Rattle.known_calls.proofs.KnownIndices.{not_wide, constant_in, type_of_worker, type_of_words}
 
@@ -238,7 +238,7 @@ module _ (P : Program) (most : ℕ) (form : Formed P most) (main : Body) (gs : L
       Typed m ls rs labels (words_on (suc n) ts) (if b then into_params n (Br depth ∷ rest) else (ReturnCall (worker_index P g) ∷ rest)) us
   t_jump {ts = ts} false g h n depth fn e at is few l k = t_returned ts g n fn at is few l.gives k
   t_jump {ts = ts} true g h n depth fn e at is few l k =
-      let same : g ≡ h = eqb-true g h (and_true (nat_eq g h) (nat_le depth most_blocks) e).0 in
+      let same : g ≡ h = eqb-true g h (and_parts (nat_eq g h) (nat_le depth most_blocks) e).0 in
       let function : fn ≡ l.fn = same_some (sym at ∙ ap (slice_get P.functions) same ∙ l.at) in
       let captured : fn.captured ≡ l.fn.captured = ap (λ (x : Fn). x.captured) function in
       let params_few = l.few in

@@ -1,6 +1,7 @@
 -- A module with workers is valid.
 use Rattle.std.proofs.Common.{◌≡◌, ℕ, zero, suc, ◌+◌, ◌-◌, ◌*◌, ◌^◌, ◌<◌, ◌≤◌, max, List, [], ◌∷◌, ◌++◌, length, map, replicate, Option, Some, Bool, true, false, refl, ap, sym, ◌∙◌, subst, append_assoc, arith}
 use Rattle.std.specs.Prelude.{slice_get, if◌then◌else◌}
+use Rattle.std.proofs.lemmas.Option.{same_Some}
 use Rattle.wasm_core.specs.declared.types.ValType.TheVariants.{I32}
 use Rattle.wasm_core.specs.declared.types.GlobalDef.{GlobalDef}
 use Rattle.wasm_core.specs.declared.exports.Export.{Export}
@@ -11,7 +12,7 @@ use Rattle.wasm_core.specs.declared.instrs.Instr.TheVariants.{Unreachable, Loop,
 use Rattle.wasm_core.specs.declared.instrs.I32Op.TheVariants as op32
 use Rattle.wasm_core.specs.Parts.{Parts}
 use Rattle.wasm_core.specs.ModuleTyping.{Typed, OperandTypes, Operands, Of, match_none, match_same, done, unreachable, loop, TypedFunc, Functions, Tables, Memories, Globals, Exported, Elements, Codes, IsSound, AllSound, DistinctNames, EachIsThere}
-use Rattle.wasm_core.proofs.Small.{inj, no}
+use Rattle.wasm_core.proofs.Small.{no}
 use Rattle.wasm_core.proofs.TypedRules.{t_plain, t_one_arm, t_body}
 use Rattle.anf_convert.specs.declared.program.Atom.TheVariants.{Var as AVar}
 use Rattle.closure_lift.specs.Lifted.{OApp, Block, Program, Fn}
@@ -28,7 +29,7 @@ use Rattle.known_calls.specs.KnownLaws.{KnownValid, CallsValid}
 use Rattle.known_calls.proofs.Shapes.{Shaped, shaped_code, shaped_op, shaped_captured, one, ◌then◌}
 use Rattle.known_calls.proofs.SameLocals.{worker_top}
 use Rattle.known_calls.proofs.Fitting.{fields_fit, params_fit}
-use Rattle.known_calls.proofs.KnownIndices.{narrow_few, type_of_words, worker_low, widest_grows, words_types_length}
+use Rattle.known_calls.proofs.KnownIndices.{narrow_few, same_number, type_of_words, worker_low, widest_grows, words_types_length}
 use Rattle.known_calls.proofs.Outside.{same_length, globals_sound, segment_sound, exports_there, names_distinct, call_globals_sound, call_exports_there, call_names_distinct}
 use Rattle.known_calls.proofs.KnownTyped.{AllWords, all_i32, words_on, t_set, t_tail_worker, t_op, t_code}
 
@@ -156,7 +157,7 @@ module _ (P : Program) (most : ℕ) (form : Formed P most) (main : Body) (gs : L
   AllTyped is bs = (f index : ℕ) (b : Body) → slice_get is f ≡ Some index → slice_get bs f ≡ Some b → TypedFunc M index b
 
   same_typed : {i j : ℕ} {a b : Body} → TypedFunc M i a → Some i ≡ Some j → ◌≡◌ {A = Option Body} (Some a) (Some b) → TypedFunc M j b
-  same_typed {i} {j} {a} {b} t e d = let p : i ≡ j = inj e in let q : a ≡ b = inj d in subst (λ (x : ℕ). TypedFunc M x b) p (subst (TypedFunc M i) q t)
+  same_typed {i} {j} {a} {b} t e d = let p : i ≡ j = same_Some _ _ e in let q : a ≡ b = same_Some _ _ d in subst (λ (x : ℕ). TypedFunc M x b) p (subst (TypedFunc M i) q t)
 
   mapped_then : {A : Type 0} (index : ℕ) (h : A → Body) (xs : List A) (is : List ℕ) (bs : List Body) → ((i : ℕ) (x : A) → slice_get xs i ≡ Some x → TypedFunc M index (h x)) → AllTyped is bs → AllTyped (map (λ x. index) xs ++ is) (map h xs ++ bs)
   mapped_then index h [] is bs a r f i b e d = r f i b e d
@@ -174,40 +175,37 @@ module _ (P : Program) (most : ℕ) (form : Formed P most) (main : Body) (gs : L
   numbered_all of_type h from (x ∷ xs) a zero i b e d = same_typed (a zero from x refl (omega arith)) e d
   numbered_all of_type h from (x ∷ xs) a (suc f) i b e d = numbered_all of_type h (suc from) xs (λ g j y at is. a (suc g) j y at (omega arith)) f i b e d
 
-  same_number : (g j : ℕ) (x : Fn) → slice_get P.functions g ≡ Some x → j ≡ 0 + g → slice_get P.functions j ≡ Some x
-  same_number g j x at is = let z : g ≡ j = omega arith in subst (λ (i : ℕ). slice_get P.functions i ≡ Some x) z at
-
   bodies_typed : TypedFunc M 0 main → AllTyped M.funcs M.bodies
   bodies_typed last zero i b e d = same_typed room_typed e d
   bodies_typed last (suc zero) i b e d = same_typed box_typed e d
   bodies_typed last (suc (suc f)) i b e d =
-      numbered_then (λ g f. 2) (entry P) 0 P.functions (map (λ t. 1) P.constants ++ (0 ∷ numbered (λ g f. worker_type f) 0 P.functions)) (map (constant P) P.constants ++ (main ∷ numbered (worker P) 0 P.functions)) (λ g j x at is. entry_typed j x (same_number g j x at is))
+      numbered_then (λ g f. 2) (entry P) 0 P.functions (map (λ t. 1) P.constants ++ (0 ∷ numbered (λ g f. worker_type f) 0 P.functions)) (map (constant P) P.constants ++ (main ∷ numbered (worker P) 0 P.functions)) (λ g j x at is. entry_typed j x (same_number P.functions g j x at is))
       (mapped_then 1 (constant P) P.constants (0 ∷ numbered (λ g f. worker_type f) 0 P.functions) (main ∷ numbered (worker P) 0 P.functions) (λ j x at. constant_typed x (form.constants j x at)) from_main) f i b e d
     where
       from_main : AllTyped (0 ∷ numbered (λ g f. worker_type f) 0 P.functions) (main ∷ numbered (worker P) 0 P.functions)
       from_main zero i b e d = same_typed last e d
-      from_main (suc f) i b e d = numbered_all (λ g f. worker_type f) (worker P) 0 P.functions (λ g j x at is. worker_typed j x (same_number g j x at is)) f i b e d
+      from_main (suc f) i b e d = numbered_all (λ g f. worker_type f) (worker P) 0 P.functions (λ g j x at is. worker_typed j x (same_number P.functions g j x at is)) f i b e d
 
   -- each function has one of the types
   workers_low : (from : ℕ) (fs : List Fn) (f index : ℕ) → slice_get (numbered (λ g f. worker_type f) from fs) f ≡ Some index → index < suc (suc (suc (widest_worker fs)))
   workers_low from [] f index e = no e
-  workers_low from (x ∷ xs) zero index e = let p : worker_type x ≡ index = inj e in omega (arith, p, worker_low x xs)
+  workers_low from (x ∷ xs) zero index e = let p : worker_type x ≡ index = same_Some _ _ e in omega (arith, p, worker_low x xs)
   workers_low from (x ∷ xs) (suc f) index e = omega (arith, workers_low (suc from) xs f index e, widest_grows x xs)
 
   constants_low : (ys : List Block) (f index : ℕ) → slice_get (map (λ y. 1) ys ++ (0 ∷ numbered (λ g f. worker_type f) 0 P.functions)) f ≡ Some index → index < suc (suc (suc (widest_worker P.functions)))
-  constants_low [] zero index e = let p : 0 ≡ index = inj e in omega (arith, p)
+  constants_low [] zero index e = let p : 0 ≡ index = same_Some _ _ e in omega (arith, p)
   constants_low [] (suc f) index e = workers_low 0 P.functions f index e
-  constants_low (y ∷ ys) zero index e = let p : 1 ≡ index = inj e in omega (arith, p)
+  constants_low (y ∷ ys) zero index e = let p : 1 ≡ index = same_Some _ _ e in omega (arith, p)
   constants_low (y ∷ ys) (suc f) index e = constants_low ys f index e
 
   entries_low : (from : ℕ) (xs : List Fn) (f index : ℕ) → slice_get (numbered (λ g f. 2) from xs ++ (map (λ y. 1) P.constants ++ (0 ∷ numbered (λ g f. worker_type f) 0 P.functions))) f ≡ Some index → index < suc (suc (suc (widest_worker P.functions)))
   entries_low from [] f index e = constants_low P.constants f index e
-  entries_low from (x ∷ xs) zero index e = let p : 2 ≡ index = inj e in omega (arith, p)
+  entries_low from (x ∷ xs) zero index e = let p : 2 ≡ index = same_Some _ _ e in omega (arith, p)
   entries_low from (x ∷ xs) (suc f) index e = entries_low (suc from) xs f index e
 
   funcs_sound : IsSound Functions M
-  funcs_sound zero index e = let p : 0 ≡ index = inj e in omega (arith, p)
-  funcs_sound (suc zero) index e = let p : 2 ≡ index = inj e in omega (arith, p)
+  funcs_sound zero index e = let p : 0 ≡ index = same_Some _ _ e in omega (arith, p)
+  funcs_sound (suc zero) index e = let p : 2 ≡ index = same_Some _ _ e in omega (arith, p)
   funcs_sound (suc (suc f)) index e = omega (arith, entries_low 0 P.functions f index e, words_types_length 0 (widest_worker P.functions))
 
   pub all_sound : 0 < pages → pages ≤ 16384 → IsSound Globals M → DistinctNames M.exports → EachIsThere M → AllSound M

@@ -1,6 +1,6 @@
 -- A closure that is made nowhere is read as a word nowhere in the parts of a block either.
 use Rattle.std.proofs.Common.{◌≡◌, ℕ, zero, suc, ◌+◌, List, ◌∷◌, Option, Some, None, Bool, true, false, refl, ◌∙◌, ap, arith}
-use Rattle.std.specs.Prelude.{slice_get, ◌&&◌, if◌then◌else◌}
+use Rattle.std.specs.Prelude.{slice_get, if◌then◌else◌}
 use Rattle.closure_lift.specs.Lifted.{Op, OCase, Block, LetAtom, Let, BranchBlocks, BranchAt, branch_here, branch_after}
 use Rattle.anf_convert.specs.declared.program.Atom.{Atom}
 use Rattle.known_calls.specs.KnownPlaces.{Word, Place, At, Known, Times, Never, Once, More, ◌plus◌, is_read, fields_of, names, op_reads, block_reads, branches_read}
@@ -17,11 +17,6 @@ pub not_read : (r : Times) → is_read r ≡ false → r ≡ Never
 not_read Never e = refl
 not_read Once e = cc
 not_read More e = cc
-
-pub and_true : (a b : Bool) → (a && b) ≡ true → (a ≡ true) × (b ≡ true)
-and_true true true e = (refl, refl)
-and_true true false e = cc
-and_true false b e = cc
 
 -- a binding that needs no code
 pub unmade_some : (b : Bool) (o : Option Place) {q : Place} → (if b then None else o) ≡ Some q → (b ≡ false) × (o ≡ Some q)

@@ -1,6 +1,7 @@
 -- Evaluation by substitution has one value, one number of nodes and one of matches; and a value is read as one tree of data.
 use Rattle.std.proofs.Common.{◌≡◌, ℕ, suc, ◌+◌, true, List, [], ◌∷◌, ◌++◌, length, drop, refl, sym, ap, ◌∙◌, subst, arith, slice_get}
 use Rattle.std.proofs.Math.Seq.{drop-append_seam}
+use Rattle.std.proofs.lemmas.Option.{same_Some}
 use Rattle.trees.specs.Tree.{Rel, Done, term_at}
 use Rattle.trees.specs.Parallel.{put, put_all, substitute}
 use Rattle.pc_terms.specs.declared.leaf.Name.{Name}
@@ -11,7 +12,7 @@ use Rattle.lambda_box.specs.BoxEvaluation.{IsBoxValue, IsBoxConstructor, is_box_
 use Rattle.lambda_box.specs.BoxForm.{IsBoxProgram}
 use Rattle.lambda_box.specs.BoxData.{Data, BoxReads, box_reads, BoxReadsAll, no_box_field, box_field}
 use Rattle.lambda_box.specs.Laws.{BoxEvaluationIsDetermined, BoxReadingIsDetermined}
-use Rattle.lambda_box.proofs.Spines.{constructor_head, constructor_arguments, fix_head, fix_arguments, one_item}
+use Rattle.lambda_box.proofs.Spines.{constructor_head, constructor_arguments, fix_head, fix_arguments}
 use Rattle.lambda_box.proofs.Families.{one_of_name, unique_family}
 
 -- no name stands for two constants, and none for two families
@@ -82,14 +83,14 @@ more_or_unfolds (fixpoint i rargs bodies xs r l e) (unfolds i' rargs' bodies' ys
     let h = sym (fix_head {i = i} {rargs = rargs} {bodies = bodies} xs e) ∙ fix_head {i = i'} {rargs = rargs'} {bodies = bodies'} ys e' in
     let spines = sym (fix_arguments i rargs bodies xs e) ∙ fix_arguments i' rargs' bodies' ys e' in
     let longs = ap length spines in
-    let rarg = one_item (sym r ∙ (λ j. slice_get (rargs_of (h j)) (index_of (h j))) ∙ r') in
+    let rarg = same_Some _ _ (sym r ∙ (λ j. slice_get (rargs_of (h j)) (index_of (h j))) ∙ r') in
     omega arith
 
 pub one_unfolding : {g v u w : BoxTerm} → BoxUnfolds g v u → BoxUnfolds g v w → u ≡ w
 one_unfolding {v = v} (unfolds i rargs bodies xs {body = b₁} r l b e) (unfolds i' rargs' bodies' ys {body = b₂} r' l' b' e') =
     let h = sym (fix_head {i = i} {rargs = rargs} {bodies = bodies} xs e) ∙ fix_head {i = i'} {rargs = rargs'} {bodies = bodies'} ys e' in
     let spines = sym (fix_arguments i rargs bodies xs e) ∙ fix_arguments i' rargs' bodies' ys e' in
-    let body = one_item (sym b ∙ (λ j. term_at (bodies_of (h j)) (index_of (h j))) ∙ b') in
+    let body = same_Some _ _ (sym b ∙ (λ j. term_at (bodies_of (h j)) (index_of (h j))) ∙ b') in
     λ j. BApp (box_apply (box_unfolded (rargs_of (h j)) (bodies_of (h j)) ((body j).1)) (spines j)) v
 
 value_only : {P : BoxProgram} {t w : BoxTerm} {n m : ℕ} → IsBoxValue t → BoxEvaluates P t w n m → (t ≡ w) × (1 ≡ n) × (0 ≡ m)
@@ -163,7 +164,7 @@ determined u (enter e h b g) (value i) = elim i [ ]
 determined {P} u (enter {f = f} {bs = bs} {qs = qs} {xs = xs} e h b g) (enter {c = d} {n' = m} {m' = a} {w = w} {qs = qs'} {xs = ys} e' h' b' g') =
     let r = determined u e e' in
     let one = one_constructor u h (subst (λ v. IsBoxConstructor P f d v qs' ys) (sym r.0) h') in
-    let bodies = one_item (sym b ∙ ap (term_at bs) one.0 ∙ b') in
+    let bodies = same_Some _ _ (sym b ∙ ap (term_at bs) one.0 ∙ b') in
     let s = determined u g (subst (λ t. BoxEvaluates P t w m a) (λ i. substitute (put_all (sym one.1 i) Rel) ((sym bodies i).1)) g') in
     (s.0, two r.1 s.1, two r.2 s.2)
 determined u (enter e h b g) (enter_only k p e' g') = absurd (different u h k p)

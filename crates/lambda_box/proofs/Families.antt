@@ -1,6 +1,6 @@
 -- Members of lists without equal names, and families by their ids.
-use Rattle.std.proofs.Common.{◌≡◌, ◌≢◌, ℕ, zero, suc, ◌+◌, ◌-◌, ◌<◌, ◌≤◌, Bool, true, false, ◌&&◌, ◌==◌, if◌then◌else◌, List, [], ◌∷◌, length, map, get_or, AllPairs, Some, refl, sym, ap, ◌∙◌, subst, arith, ⊎_elim}
-use Rattle.std.proofs.lemmas.Bool.{cases_lt, le-leb, lt-leb, eqb-true, eq-eqb}
+use Rattle.std.proofs.Common.{◌≡◌, ◌≢◌, ℕ, zero, suc, ◌<◌, Bool, true, false, ◌==◌, if◌then◌else◌, List, [], ◌∷◌, length, map, get_or, AllPairs, Some, refl, sym, ap, ◌∙◌, arith, ⊎_elim}
+use Rattle.std.proofs.lemmas.Bool.{cases_lt, eqb-true, eq-eqb, and_parts, and_from}
 use Rattle.trees.proofs.Put.{each_length}
 use Rattle.pc_terms.specs.declared.leaf.FamilyId.{FamilyId}
 use Rattle.lambda_box.specs.BoxProgram.{BoxFamily, BoxProgram, Has, here, there, KeepsBoxFamily}
@@ -35,21 +35,13 @@ has_map f (there h) = there (has_map f h)
 
 -- the families that are found
 
-both_true : (a b : Bool) → (a && b) ≡ true → (a ≡ true) × (b ≡ true)
-both_true true b e = (refl, e)
-both_true false b e = cc
-
 pub same_family_is : (f g : FamilyId) → same_family f g ≡ true → f ≡ g
 same_family_is f g e =
-    let both = both_true (f.block.0 == g.block.0) (f.family == g.family) e in
+    let both = and_parts (f.block.0 == g.block.0) (f.family == g.family) e in
     λ i. record { block = record { 0 = eqb-true f.block.0 g.block.0 both.0 i }; family = eqb-true f.family g.family both.1 i }
 
-and_true : (a b : Bool) → a ≡ true → b ≡ true → (a && b) ≡ true
-and_true true b e g = g
-and_true false b e g = cc
-
 pub one_family : (f : FamilyId) → same_family f f ≡ true
-one_family f = and_true (f.block.0 == f.block.0) (f.family == f.family) (eq-eqb f.block.0 f.block.0 refl) (eq-eqb f.family f.family refl)
+one_family f = and_from (f.block.0 == f.block.0) (f.family == f.family) (eq-eqb f.block.0 f.block.0 refl) (eq-eqb f.family f.family refl)
 
 pub record FamilyFound (Fs : List BoxFamily) (f : FamilyId) : Type 0 where
   pub family : BoxFamily

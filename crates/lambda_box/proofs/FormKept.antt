@@ -1,5 +1,6 @@
 -- The form of box programs is kept by evaluation: the value of a closed term of the form is one.
 use Rattle.std.proofs.Common.{◌≡◌, ℕ, zero, suc, ◌+◌, ◌≤◌, List, [], ◌∷◌, ◌++◌, length, Some, sym, ◌∙◌, subst, arith}
+use Rattle.std.proofs.lemmas.Option.{same_Some}
 use Rattle.trees.specs.Tree.{Slot, Rel, Node, Places, End, Child, Group, Done, Next, term_at}
 use Rattle.trees.specs.Parallel.{up, ups, rename, rename_children, rename_terms, over, overs, substitute, substitute_children, substitute_terms, first, put_all}
 use Rattle.trees.specs.Closed.{Closed, ClosedTerms, ClosedEach}
@@ -10,7 +11,7 @@ use Rattle.lambda_box.specs.BoxProgram.{BoxConstant, BoxFamily, BoxProgram, Has,
 use Rattle.lambda_box.specs.BoxEvaluation.{is_box_constructor, BoxUnfolds, unfolds, box_unfolded, BoxEvaluates, value, constant, let_in, beta, box_app, extend, unfold_fix, enter, enter_only}
 use Rattle.lambda_box.specs.BoxForm.{IsFixBody, boxed, last, more, AreFixBodies, FormAt, HasBoxForm, HasBoxFormChildren, HasBoxFormTerms, IsBoxBody}
 use Rattle.lambda_box.specs.Laws.{ValuesHaveForm}
-use Rattle.lambda_box.proofs.Spines.{one_item, boxes_number, fixpoints_number}
+use Rattle.lambda_box.proofs.Spines.{boxes_number, fixpoints_number}
 use Rattle.lambda_box.proofs.Naming.{named_put_list, named_at, EachNamed, ordered_body}
 
 -- definitions of fixpoints
@@ -31,7 +32,7 @@ fix_bodies_renamed n [] (Next m t ts) r h = absurd h
 fix_bodies_renamed n (k ∷ rs) Done r h = absurd h
 fix_bodies_renamed n (k ∷ rs) (Next m t ts) r h = (h.0, fix_body_renamed h.1 (ups m r), fix_bodies_renamed n rs ts r h.2)
 
-fix_bodies_substituted : (n : ℕ) (rs : List ℕ) (ts : BoxTerms) (s : ℕ → BoxTerm) → AreFixBodies n rs ts → AreFixBodies n rs (substitute_terms s ts)
+pub fix_bodies_substituted : (n : ℕ) (rs : List ℕ) (ts : BoxTerms) (s : ℕ → BoxTerm) → AreFixBodies n rs ts → AreFixBodies n rs (substitute_terms s ts)
 fix_bodies_substituted n [] Done s h = tt
 fix_bodies_substituted n [] (Next m t ts) s h = absurd h
 fix_bodies_substituted n (k ∷ rs) Done s h = absurd h
@@ -152,12 +153,12 @@ module _ (P : BoxProgram) where
   closed_term_at : (ts : BoxTerms) (i m : ℕ) (t : BoxTerm) → ClosedTerms 0 ts → term_at ts i ≡ Some (m, t) → Closed m t
   closed_term_at Done i m t c e = absurd (cc)
   closed_term_at (Next n u ts) zero m t c e =
-      let q : (n, u) ≡ (m, t) = one_item e in subst (λ p. Closed p.0 p.1) q (closed_at u (omega arith) c.0)
+      let q : (n, u) ≡ (m, t) = same_Some _ _ e in subst (λ p. Closed p.0 p.1) q (closed_at u (omega arith) c.0)
   closed_term_at (Next n u ts) (suc i) m t c e = closed_term_at ts i m t c.1 e
 
   form_term_at : (ts : BoxTerms) (i m : ℕ) (t : BoxTerm) → HasBoxFormTerms P.families ts → term_at ts i ≡ Some (m, t) → HasBoxForm P.families t
   form_term_at Done i m t h e = absurd (cc)
-  form_term_at (Next n u ts) zero m t h e = let q : (n, u) ≡ (m, t) = one_item e in subst (λ p. HasBoxForm P.families p.1) q h.0
+  form_term_at (Next n u ts) zero m t h e = let q : (n, u) ≡ (m, t) = same_Some _ _ e in subst (λ p. HasBoxForm P.families p.1) q h.0
   form_term_at (Next n u ts) (suc i) m t h e = form_term_at ts i m t h.1 e
 
   each_box : (n : ℕ) → EachBody (boxes n)

@@ -5,3 +5,4 @@ pub mod Steps
 pub mod Stacks
 pub mod Bytes
 pub mod Placing
+pub mod Heaps

@@ -3,9 +3,9 @@ use Rattle.std.proofs.Common.{◌≡◌, Ok, ℕ, zero, suc, ◌+◌, ◌-◌, �
 use Rattle.std.specs.Prelude.{slice_get, slice_set, if◌then◌else◌}
 use Rattle.std.specs.Option.{option_map, option_and_then}
 use Rattle.std.proofs.lemmas.List.{append-nil, get_or-set_same, set-set, set-get_or, length-take, length-drop}
-use Rattle.std.proofs.lemmas.Option.{slice_get_within, get_or_from_slice_get, slice_get-get_or}
+use Rattle.std.proofs.lemmas.Option.{slice_get_within, get_or_from_slice_get, slice_get-get_or, same_Some}
 use Rattle.wasm_core.specs.declared.types.ConstValue.{ConstValue}
-use Rattle.wasm_core.specs.declared.types.ConstValue.TheVariants.{I32, I64}
+use Rattle.wasm_core.specs.declared.types.ConstValue.TheVariants.{I32}
 use Rattle.wasm_core.specs.declared.entries.Entry.TheVariants.{Heap, Args}
 use Rattle.wasm_core.specs.Parts.{Parts}
 use Rattle.wasm_core.specs.Memory.{byte, word, zeroed}
@@ -16,18 +16,19 @@ use Rattle.wasm_core.specs.WordData.{DataNodes, IsBlock, IsBelow}
 use Rattle.wasm_core.specs.StoredData.{StandsWithin, odd, block, FieldsWithin, no_field, field, ArgumentsWithin, no_argument, argument}
 use Rattle.wasm_core.specs.Answer.{global_of, i32_of}
 use Rattle.wasm_core.specs.HostStore.{IsForCall, set_at, set_entry, pages_for, held, has_room, with_block, with_store}
-use Rattle.wasm_core.proofs.Small.{inj, no, some_of}
+use Rattle.wasm_core.proofs.Small.{no, some_of, map_of}
 use Rattle.wasm_core.proofs.WordsStay.{zeroed_length}
 use Rattle.wasm_core.specs.MachineStep.{State}
 use Rattle.wasm_core.specs.Runs.{store_of}
 use Rattle.wasm_core.specs.MachineRun.{MachineShown}
 use Rattle.wasm_run.specs.Hosting.{put_in, IsAtStart}
 use Rattle.wasm_run.proofs.HostCalls.{puts_length, room_small, held_has}
+use Rattle.wasm_run.proofs.Running.{read_i32}
 use Rattle.data_trees.specs.Preorder.{IsForest, IsTree}
 use Rattle.mem_value.specs.Storing.{Stacked, put_at, put_block, put_node, put_nodes, put_trees, put_last, put_arguments, header, with_word, IsSmallData, HasHeap, HasStored, StackSays, PutSays, StoreSays}
 use Rattle.wasm_core.proofs.MemoryWords.{word_same, more_same}
 use Rattle.mem_value.proofs.Bytes.{puts_other, WordsAt, IsWord32, puts_there}
-use Rattle.mem_value.proofs.Stacks.{mapped, none_left, with_again, store_again}
+use Rattle.mem_value.proofs.Stacks.{none_left, with_again, store_again}
 
 -- ---- words that stand for trees, one after the other
 
@@ -206,7 +207,7 @@ module _ (m : Parts) (cap x : ℕ) (hx : index_of Heap m ≡ Some x) (old : Stor
     where
       by : (b : Bool) → has_room m cap (past + 4 * length ws) ≡ b → ◌≡◌ {A = Option (ℕ × Store)} (if b then Some (past, with_block m past ws s) else None) (Some (at, t)) → (at ≡ past) × Block s past ws t
       by true r e =
-          let is : ◌≡◌ {A = ℕ × Store} (past, with_block m past ws s) (at, t) = inj e in
+          let is : ◌≡◌ {A = ℕ × Store} (past, with_block m past ws s) (at, t) = same_Some _ _ e in
           let t_is : set_at (Some x) (past + 4 * length ws) (put_in past ws s) ≡ t = ap (λ (o : Option ℕ). set_at o (past + 4 * length ws) (put_in past ws s)) (sym hx) ∙ ap (λ (y : ℕ × Store). y.1) is in
           (sym (ap (λ (y : ℕ × Store). y.0) is), subst (Block s past ws) t_is (block_at s past ws p r))
       by false r e = no e
@@ -235,7 +236,7 @@ module _ (m : Parts) (cap x : ℕ) (hx : index_of Heap m ≡ Some x) (old : Stor
 
   node_grows : (s : Store) (past : ℕ) (before : List ℕ) (c arity : ℕ) (rest : DataNodes) (k : ℕ) (b a : Stacked) → c < 65536 → arity < 65536 → Grown s past before rest (arity + k) b → put_node m cap c arity b ≡ Some a → Grown s past before ((c, arity) ∷ rest) (suc k) a
   node_grows s past before c zero rest k b a small few g e =
-      let a_is : record b { words = (2 * c + 1) ∷ b.words } ≡ a = inj e in
+      let a_is : record b { words = (2 * c + 1) ∷ b.words } ≡ a = same_Some _ _ e in
       subst (Grown s past before ((c, 0) ∷ rest) (suc k)) a_is
       (record {
         past_now = g.past_now;
@@ -250,7 +251,7 @@ module _ (m : Parts) (cap x : ℕ) (hx : index_of Heap m ≡ Some x) (old : Stor
       plus : (k : ℕ) → 0 + k ≡ k
       plus k = omega arith
   node_grows s past before c (suc q) rest k b a small few g e =
-      let (p, hp, a_is) = mapped (with_word (drop (suc q) b.words)) (put_block m cap (header (suc q) c ∷ take (suc q) b.words) b.store) a e in
+      let (p, hp, a_is) = map_of (with_word (drop (suc q) b.words)) (put_block m cap (header (suc q) c ∷ take (suc q) b.words) b.store) a e in
       let le : suc q ≤ length g.words = omega (arith, g.count) in
       let t_is : take (suc q) b.words ≡ take (suc q) g.words = ap (take (suc q)) g.is ∙ take_front (suc q) g.words before le in
       let d_is : drop (suc q) b.words ≡ drop (suc q) g.words ++ before = ap (drop (suc q)) g.is ∙ drop_front (suc q) g.words before le in
@@ -316,7 +317,7 @@ module _ (m : Parts) (cap x : ℕ) (hx : index_of Heap m ≡ Some x) (old : Stor
 
   nodes_grow : (s : Store) (past : ℕ) (ws : List ℕ) (nodes : DataNodes) (n : ℕ) (a : Stacked) → IsSmallData nodes → IsForest n nodes → Placed old x first s past → put_nodes m cap nodes (record { store = s; words = ws }) ≡ Some a → Grown s past ws nodes n a
   nodes_grow s past ws [] n a small f p e =
-      subst (Grown s past ws [] n) (inj e) (record { past_now = past; placed = p; later = later_same s past; words = []; is = refl; count = sym (none_left n f); stand = refl })
+      subst (Grown s past ws [] n) (same_Some _ _ e) (record { past_now = past; placed = p; later = later_same s past; words = []; is = refl; count = sym (none_left n f); stand = refl })
   nodes_grow s past ws (y ∷ rest) zero a small f p e = absurd f
   nodes_grow s past ws (y ∷ rest) (suc k) a ((c, few), small) f p e =
       let (b, hb, e1) = some_of (put_node m cap y.0 y.1) (put_nodes m cap rest (record { store = s; words = ws })) a e in
@@ -347,7 +348,7 @@ module _ (m : Parts) (cap x : ℕ) (hx : index_of Heap m ≡ Some x) (old : Stor
   one_tree memory high (u ∷ v ∷ us) d n h = absurd (omega (arith, n))
 
   trees_stand : (s : Store) (past : ℕ) (ds : List DataNodes) (a : Stacked) → Each IsSmallData ds → Each IsTree ds → Placed old x first s past → put_trees m cap ds (record { store = s; words = [] }) ≡ Some a → Stood s ds a
-  trees_stand s past [] a small trees p e = subst (Stood s []) (inj e) (record { past = past; placed = p; stand = tt })
+  trees_stand s past [] a small trees p e = subst (Stood s []) (same_Some _ _ e) (record { past = past; placed = p; stand = tt })
   trees_stand s past (d ∷ ds) a (sd, small) (td, trees) p e =
       let (b, hb, e1) = some_of (put_nodes m cap d) (put_trees m cap ds (record { store = s; words = [] })) a e in
       let h = trees_stand s past ds b small trees p hb in
@@ -382,7 +383,7 @@ module _ (m : Parts) (cap x : ℕ) (hx : index_of Heap m ≡ Some x) (old : Stor
   has_stored inside q aligned ds small trees new e =
       let (a, ha, e1) = some_of (put_last m cap) (put_trees m cap ds (record { store = old; words = [] })) new e in
       let h = trees_stand old first ds a small trees (first_placed inside q aligned) ha in
-      let (p, hp, e2) = mapped (λ (p : ℕ × Store). set_entry Args m p.0 p.1) (put_block m cap a.words a.store) new e1 in
+      let (p, hp, e2) = map_of (λ (p : ℕ × Store). set_entry Args m p.0 p.1) (put_block m cap a.words a.store) new e1 in
       let (at_is, bl) = block_put a.store h.past p.0 a.words p.1 h.placed hp in
       let now = h.past in let past = now + 4 * length a.words in
       let count = each_count a.store.memory now a.words ds h.stand in
@@ -422,13 +423,8 @@ module _ (m : Parts) (cap x : ℕ) (hx : index_of Heap m ≡ Some x) (old : Stor
 
 -- ---- the whole call
 
-i32_is : (o : Option ConstValue) (w : ℕ) → option_and_then i32_of o ≡ Some w → o ≡ Some (I32 w)
-i32_is None w e = no e
-i32_is (Some (I32 n)) w e = ap (λ k. Some (I32 k)) (inj e)
-i32_is (Some (I64 n)) w e = no e
-
 heap_there : (m : Parts) (x heap : ℕ) (s : Store) → index_of Heap m ≡ Some x → global_of Heap m s ≡ Some heap → slice_get s.globals x ≡ Some (I32 heap)
-heap_there m x heap s hx e = i32_is (slice_get s.globals x) heap (sym (ap (option_and_then (λ y. option_and_then i32_of (slice_get s.globals y))) hx) ∙ e)
+heap_there m x heap s hx e = read_i32 (slice_get s.globals x) heap (sym (ap (option_and_then (λ y. option_and_then i32_of (slice_get s.globals y))) hx) ∙ e)
 
 pub values_says : (old mid last new : MachineShown) (args : List DataNodes) (ws : List ℕ) (at : ℕ) → StackSays old mid ws (put_trees old.program old.cap args (record { store = store_of old.state; words = [] })) (Ok tt) → PutSays mid last ws (Ok at) →
     new ≡ record last { state = with_store last.state (set_entry Args last.program at (store_of last.state)) } → (old.failed ≡ false → HasHeap old.program (store_of old.state)) → (old.failed ≡ false → IsAtStart old) → IsForCall old.program →

@@ -1,8 +1,8 @@
 -- Storing step by step: what calls say one after the other.
 use Rattle.std.proofs.Common.{◌≡◌, ℕ, zero, suc, ◌+◌, ◌-◌, ◌*◌, ◌<◌, ◌≤◌, List, [], ◌∷◌, ◌++◌, length, reverse, take, drop, Option, Some, None, Result, Ok, Err, refl, sym, ap, subst, ◌∙◌, arith, add-one}
 use Rattle.std.specs.Prelude.{slice_get}
-use Rattle.std.proofs.lemmas.Option.{slice_get_within, get_or_from_slice_get}
-use Rattle.wasm_core.proofs.Small.{inj, some_of}
+use Rattle.std.proofs.lemmas.Option.{slice_get_within, get_or_from_slice_get, same_Some}
+use Rattle.wasm_core.proofs.Small.{some_of, map_of}
 use Rattle.std.specs.Option.{option_map, option_and_then}
 use Rattle.std.proofs.lemmas.List.{length-reverse, reverse-append, drop_more, drop_all, length-drop}
 use Rattle.wasm_core.specs.Parts.{Parts}
@@ -118,19 +118,15 @@ pub none_left : (n : ℕ) → IsForest n [] → n ≡ 0
 none_left zero h = refl
 none_left (suc n) h = absurd h
 
-pub mapped : {A B : Type 0} (f : A → B) (o : Option A) (y : B) → option_map f o ≡ Some y → (x : A) × (o ≡ Some x) × (f x ≡ y)
-mapped f None y e = cc
-mapped f (Some x) y e = (x, refl, inj e)
-
 node_counts : (m : Parts) (cap c arity k : ℕ) (b a' : Stacked) (rest : ℕ) → put_node m cap c arity b ≡ Some a' → length b.words ≡ arity + k + rest → length a'.words ≡ suc k + rest
-node_counts m cap c zero k b a' rest e h = let w : a'.words ≡ (2 * c + 1) ∷ b.words = ap (λ (x : Stacked). x.words) (sym (inj e)) in omega (arith, h, ap length w)
+node_counts m cap c zero k b a' rest e h = let w : a'.words ≡ (2 * c + 1) ∷ b.words = ap (λ (x : Stacked). x.words) (sym (same_Some _ _ e)) in omega (arith, h, ap length w)
 node_counts m cap c (suc q) k b a' rest e h =
-    let (p, hp, e1) = mapped (with_word (drop (suc q) b.words)) (put_block m cap (header (suc q) c ∷ take (suc q) b.words) b.store) a' e in
+    let (p, hp, e1) = map_of (with_word (drop (suc q) b.words)) (put_block m cap (header (suc q) c ∷ take (suc q) b.words) b.store) a' e in
     let w : a'.words ≡ p.0 ∷ drop (suc q) b.words = ap (λ (x : Stacked). x.words) (sym e1) in
     omega (arith, h, ap length w, length-drop (suc q) b.words)
 
 pub counts : (m : Parts) (cap : ℕ) (nodes : DataNodes) (n : ℕ) (a a' : Stacked) → IsForest n nodes → put_nodes m cap nodes a ≡ Some a' → length a'.words ≡ n + length a.words
-counts m cap [] n a a' f e = let z = none_left n f in let w : a'.words ≡ a.words = ap (λ (x : Stacked). x.words) (sym (inj e)) in omega (arith, z, ap length w)
+counts m cap [] n a a' f e = let z = none_left n f in let w : a'.words ≡ a.words = ap (λ (x : Stacked). x.words) (sym (same_Some _ _ e)) in omega (arith, z, ap length w)
 counts m cap (x ∷ rest) zero a a' f e = absurd f
 counts m cap (x ∷ rest) (suc k) a a' f e =
     let (b, hb, e1) = some_of (put_node m cap x.0 x.1) (put_nodes m cap rest a) a' e in

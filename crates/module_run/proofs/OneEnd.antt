@@ -1,6 +1,7 @@
 -- The end of a module's answer is one, and what it is where every run answers the same data or is exhausted.
 use Rattle.std.proofs.Common.{◌≡◌, ◌≢◌, ℕ, suc, ◌<◌, ◌≤◌, length, Option, Some, Bool, Result, Ok, Err, refl, sym, ap, subst, ◌∙◌, arith, ◌⊎◌, inl, inr}
 use Rattle.std.proofs.lemmas.Bool.{cases_lt}
+use Rattle.std.proofs.lemmas.Option.{same_Some}
 use Rattle.wasm_core.specs.declared.ended.Ended.{Ended}
 use Rattle.wasm_core.specs.declared.ended.Ended.TheVariants.{Returned, Trapped}
 use Rattle.wasm_core.specs.declared.ended.TrapKind.{TrapKind}
@@ -12,7 +13,6 @@ use Rattle.wasm_core.specs.MachineRun.{GoesOn}
 use Rattle.wasm_core.specs.Runs.{main_start}
 use Rattle.wasm_core.specs.Answer.{global_of, Answers, answers, Exhausted, exhausted, AnswersFrom, IsAtEnd, IsAnswer}
 use Rattle.wasm_core.specs.WordData.{DataNodes, StandsFor}
-use Rattle.wasm_core.proofs.Small.{inj}
 use Rattle.wasm_core.proofs.DataUnique.{data_unique}
 use Rattle.wasm_core.proofs.Trees.{moves_are_steps}
 use Rattle.mem_value.specs.Tells.{HasData, HasMany, most_nodes}
@@ -41,7 +41,7 @@ data Way (o : Option State) (m : Parts) (cap n : ℕ) (r : Result Answer RunRefu
   back : IsSmall m → (store : Store) (word : ℕ) → IsRunFrom o m cap n (Over Returned store) → global_of entry.Result m store ≡ Some word → of_return store word r → Way o m cap n r
 
 some_other : {x y : ℕ} (p : Option ℕ) → p ≡ Some x → x ≢ y → p ≢ Some y
-some_other p e n f = n (inj (sym e ∙ f))
+some_other p e n f = n (same_Some _ _ (sym e ∙ f))
 
 way_of : (o : Option State) (m : Parts) (cap n : ℕ) (r : Result Answer RunRefusal) → EndsFrom o m cap n r → r ≢ Err refusals.Memory → Way o m cap n r
 way_of o m cap n (Ok a) (small, h) k = back small h.returned.store a.word h.returned.run h.returned.word_is (refl, h.stands, h.few)
@@ -119,7 +119,7 @@ module _ (o : Option State) (m : Parts) (cap n : ℕ) (a b : Result Answer RunRe
       of_return s v a → of_return t w b → a ≡ b
   returned_both s t v w r q e f x y =
       let stores : s ≡ t = ap (λ z. store_in z s) (one_run_from m cap o n Returned Returned s t r q) in
-      let words : v ≡ w = inj (sym e ∙ ap (global_of entry.Result m) stores ∙ f) in
+      let words : v ≡ w = same_Some _ _ (sym e ∙ ap (global_of entry.Result m) stores ∙ f) in
       returns_same t w a b (subst (λ z. of_return t z a) words (subst (λ z. of_return z v a) stores x)) y
 
   never : (k : TrapKind) (s t : Store) → IsRunFrom o m cap n (Over (Trapped k) s) → IsRunFrom o m cap n (Over Returned t) → ⊥
@@ -170,7 +170,7 @@ module _ (o : Option State) (m : Parts) (cap most n : ℕ) (d : DataNodes) (star
   -- the run's end
   ended : (x : Ended) (s : Store) → IsRunFrom o m cap n (Over x s) → Answers m d (Over x s) ⊎ Exhausted m (Over x s)
   ended x s r =
-      let first : r.first ≡ start = inj (sym r.starts ∙ at) in
+      let first : r.first ≡ start = same_Some _ _ (sym r.starts ∙ at) in
       let reach = subst (λ z. Reach m r.steps z (Over x s)) first (moves_are_steps m cap r.steps r.first (Over x s) r.moves) in
       w.answers r.steps (Over x s) reach (over_is_end m x s)
 
@@ -181,7 +181,7 @@ module _ (o : Option State) (m : Parts) (cap most n : ℕ) (d : DataNodes) (star
   trapped k s r = elim (ended (Trapped k) s r) [ inl a ↦ absurd (trapped_answer a) | inr e ↦ exhausted_status e ]
 
   stands : (x : ℕ) (r : IsReturnedFrom o m cap n x) → StandsFor r.store.memory x d
-  stands x r = (let a = returned r.store r.run in subst (λ v. StandsFor r.store.memory v d) (inj (sym a.result ∙ r.word_is)) a.stands)
+  stands x r = (let a = returned r.store r.run in subst (λ v. StandsFor r.store.memory v d) (same_Some _ _ (sym a.result ∙ r.word_is)) a.stands)
 
   -- after fewer steps than the bound, where it goes on
   no_step : (granted : Bool) (k : ℕ) (c : Conf) → Reach m k start (At c) → k ≡ most → (next : Option State) → step m granted c ≡ next → (t : State) → StepsTo m granted (At c) t → ⊥
@@ -204,7 +204,7 @@ module _ (o : Option State) (m : Parts) (cap most n : ℕ) (d : DataNodes) (star
 
   longer : IsLongerFrom o m cap n → n < most
   longer l =
-      let first : l.first ≡ start = inj (sym l.starts ∙ at) in
+      let first : l.first ≡ start = same_Some _ _ (sym l.starts ∙ at) in
       still n l.state (subst (λ z. Reach m n z l.state) first (moves_are_steps m cap n l.first l.state l.moves)) l.goes_on
 
 pub ends_answer_from : (o : Option State) (m : Parts) (cap most n : ℕ) (d : DataNodes) (start : State) (r : Result Answer RunRefusal) → o ≡ Some start → AnswersFrom m most d start → EndsFrom o m cap n r → AnswersOrSpends most n d r
@@ -212,7 +212,7 @@ ends_answer_from o m cap most n d start (Ok a) at w (small, h) = data_unique h.r
 ends_answer_from o m cap most n d start (Err refusals.ModuleBytes) at w h = tt
 ends_answer_from o m cap most n d start (Err refusals.StepsSpent) at w (small, h) = longer o m cap most n d start at w h
 ends_answer_from o m cap most n d start (Err refusals.Exhausted) at w h = tt
-ends_answer_from o m cap most n d start (Err (refusals.Trapped kind)) at w (small, (status, other, h)) = other (inj (sym h.status_is ∙ trapped o m cap most n d start at w kind h.store h.run))
+ends_answer_from o m cap most n d start (Err (refusals.Trapped kind)) at w (small, (status, other, h)) = other (same_Some _ _ (sym h.status_is ∙ trapped o m cap most n d start at w kind h.store h.run))
 ends_answer_from o m cap most n d start (Err (refusals.NoValue word)) at w (small, h) = h.none (d, stands o m cap most n d start at w word h.returned)
 ends_answer_from o m cap most n d start (Err refusals.AnswerNodes) at w (small, h) =
     let (e, s, many) = h.many in

@@ -1,5 +1,6 @@
 -- The end of the answer of a module that is given as bytes is one.
 use Rattle.std.proofs.Common.{◌≡◌, ◌≢◌, ℕ, ◌≤◌, List, length, Some, None, Result, Ok, Err, refl, sym, ap, subst, ◌∙◌, arith}
+use Rattle.std.proofs.lemmas.Option.{same_Some}
 use Rattle.wasm_core.specs.declared.ended.NewFault.{NewFault}
 use Rattle.wasm_core.specs.declared.ended.NewFault.TheVariants as new
 use Rattle.wasm_core.specs.Parts.{Parts}
@@ -11,7 +12,6 @@ use Rattle.wasm_core.specs.ShortestBytes.{most_bytes}
 use Rattle.wasm_core.specs.MachineRun.{refusal}
 use Rattle.wasm_core.proofs.Exact.{exact}
 use Rattle.wasm_core.proofs.FaultUnique.{first_fault_is_fault, first_fault_unique}
-use Rattle.wasm_core.proofs.Small.{inj}
 use Rattle.wasm_encode.proofs.Fewest.{none_is_shorter}
 use Rattle.module_run.specs.declared.answer.Answer.{Answer}
 use Rattle.module_run.specs.declared.refusal.RunRefusal.{RunRefusal}
@@ -78,7 +78,7 @@ module _ (bytes : List ℕ) (cap n : ℕ) (short : length bytes ≤ most_bytes) 
   one_stage a b (unstarted m s v x h e) (untyped l t g p k f) = absurd (first_fault_is_fault l g p k (subst IsValid (exact.one_module bytes m l s t) v))
   one_stage a b (unstarted m s v x h e) (unstarted l t w y k f) =
       let same : Some x ≡ Some y = sym h ∙ ap (λ z. refusal z cap) (exact.one_module bytes m l s t) ∙ k in
-      let one : x ≡ y = inj same in
+      let one : x ≡ y = same_Some _ _ same in
       e ∙ ap of_start one ∙ sym f
   one_stage a b (unstarted m s v x h e) (ran l t w none y k z f) =
       let same : Some x ≡ None = sym h ∙ ap (λ z. refusal z cap) (exact.one_module bytes m l s t) ∙ none in

@@ -10,12 +10,6 @@ use Rattle.reports.specs.Counting.{after, after_all, after_times, last, numbered
 use Rattle.reports.specs.Shown.{Shown, IsTold}
 use Rattle.reports.specs.declared.fact.Fact.{Fact}
 
-head_is : {X : Type 0} (x y : X) (xs ys : List X) → x ∷ xs ≡ y ∷ ys → x ≡ y
-head_is x y xs ys e = cc
-
-tail_is : {X : Type 0} (x y : X) (xs ys : List X) → x ∷ xs ≡ y ∷ ys → xs ≡ ys
-tail_is x y xs ys e = cc
-
 -- ---- one report
 
 -- no fact
@@ -53,14 +47,6 @@ times_counted false t n m k e f = omega (arith, e, f)
 -- one fact so many times, counted at once
 pub told_times : (t : ℕ) (f : Fact) (a b : Shown) → b.counted ≡ after_times (a.wanted f) t a.counted → b.wanted ≡ a.wanted → b.named ≡ a.named → IsTold (replicate t f) a b
 told_times t f a b c w n = record { counted = times_counted (a.wanted f) t a.counted b.counted (count_by a.wanted (replicate t f)) c (sum_by-replicate (λ x. cond (a.wanted x) 1 0) t f); wanted = w; named = n }
-
-replicate_next : {X : Type 0} (n : ℕ) (x : X) → replicate n x ++ x ∷ [] ≡ replicate (suc n) x
-replicate_next zero x = refl
-replicate_next (suc n) x = ap (λ xs. x ∷ xs) (replicate_next n x)
-
--- one fact more of the same
-pub replicate_more : {X : Type 0} (n m : ℕ) (x : X) → m ≡ suc n → replicate n x ++ x ∷ [] ≡ replicate m x
-replicate_more n m x e = replicate_next n x ∙ ap (λ k. replicate k x) (sym e)
 
 numbered_next : (fact : ℕ → Fact) (k i : ℕ) (counts : List ℕ) (d r : ℕ) → i < length counts → r ≡ k + i → numbered fact k (take i counts) ++ replicate (get_or counts i d) (fact r) ≡ numbered fact k (take (suc i) counts)
 numbered_next fact k i [] d r lt e = absurd (omega (arith, lt))
@@ -125,8 +111,9 @@ told_up_to_next : {X : Type 0} (shown : X → Shown) (facts : List Fact) (i : �
 told_up_to_next shown facts zero [] now x y lt t told = absurd (omega (arith, lt, t.long))
 told_up_to_next shown facts zero (a ∷ olds) [] x y lt t told = absurd (omega (arith, lt))
 told_up_to_next shown facts zero (a ∷ olds) (b ∷ bs) x y lt t told =
-    let same : b ≡ a = head_is b a bs olds t.rest in
-    record { told = (subst (λ z. IsTold facts (shown z) (shown y)) same told, tt); rest = tail_is b a bs olds t.rest; long = t.long }
+    let e : b ∷ bs ≡ a ∷ olds = t.rest in
+    let same : b ≡ a = cc in
+    record { told = (subst (λ z. IsTold facts (shown z) (shown y)) same told, tt); rest = cc; long = t.long }
 told_up_to_next shown facts (suc i) [] now x y lt t told = absurd (omega (arith, lt, t.long))
 told_up_to_next shown facts (suc i) (a ∷ olds) [] x y lt t told = absurd (omega (arith, lt))
 told_up_to_next shown facts (suc i) (a ∷ olds) (b ∷ bs) x y lt t told =

@@ -1,7 +1,7 @@
 -- Arguments dropped all at once: depth, form, names and uses, and one place more.
-use Rattle.std.proofs.Common.{◌≡◌, ℕ, zero, suc, ◌+◌, ◌<◌, ◌≤◌, Bool, true, false, ◌&&◌, ◌||◌, List, [], ◌∷◌, length, map, Option, Some, None, refl, sym, ap, ◌∙◌, subst, arith}
+use Rattle.std.proofs.Common.{◌≡◌, ℕ, zero, suc, ◌+◌, ◌≤◌, Bool, true, false, ◌&&◌, ◌||◌, List, [], length, map, Option, Some, None, refl, sym, ap, ◌∙◌, arith}
 use Rattle.std.specs.Prelude.{nat_eq, if◌then◌else◌}
-use Rattle.std.proofs.lemmas.Bool.{eq-eqb}
+use Rattle.std.proofs.lemmas.Bool.{eq-eqb, and_parts}
 use Rattle.trees.specs.Tree.{Rel, Done, Next}
 use Rattle.trees.specs.Measures.{depth, depth_trees}
 use Rattle.trees.specs.Closed.{Closed, ClosedTerms}
@@ -16,9 +16,8 @@ use Rattle.lambda_box.specs.ClosureEvaluation.{names, names_terms}
 use Rattle.shrink_passes.specs.declared.noting.Use.{Use}
 use Rattle.shrink_passes.specs.Uses.{uses, uses_terms}
 use Rattle.shrink_passes.specs.DropParams.{is_spine, is_box, fits, fits_terms, cut, cut_terms, leading, is_unused}
-use Rattle.shrink_passes.specs.DeadPlaces.{one_more, spine, box_there, is_reached, noted}
+use Rattle.shrink_passes.specs.DeadPlaces.{spine, box_there, is_reached, noted}
 use Rattle.shrink_passes.specs.Pruned.{is_dropped, pruned, pruned_terms}
-use Rattle.shrink_passes.proofs.Cutting.{both_hold}
 use Rattle.shrink_passes.proofs.RunShapes.{box_is_box}
 use Rattle.shrink_passes.proofs.Flagging.{and_true}
 use Rattle.shrink_passes.proofs.Mapped.{fix_mapped, case_mapped}
@@ -136,7 +135,7 @@ module _ (D : ℕ → ℕ → Bool) where
   AllNoted t = (j r : ℕ) → D j r ≡ true → noted j r t ≡ true
 
   from_fits : (t : BoxTerm) → ((j r : ℕ) → D j r ≡ true → fits j r [] t ≡ true) → AllNoted t
-  from_fits t h j r d = (both_hold (noted j r t) (is_reached j r (spine t)) (sym (fits_noted j r t) ∙ h j r d)).0
+  from_fits t h j r d = (and_parts (noted j r t) (is_reached j r (spine t)) (sym (fits_noted j r t) ∙ h j r d)).0
 
   there_box : (u : Use) (a : BoxTerm) → box_there u.name.0 u.arguments (Some u) a ≡ true → a ≡ Box
   there_box u a e = go (nat_eq u.name.0 u.name.0) (nat_eq u.arguments u.arguments) (eq-eqb u.name.0 u.name.0 refl) (eq-eqb u.arguments u.arguments refl) e
@@ -152,17 +151,17 @@ module _ (D : ℕ → ℕ → Bool) where
     boxes_from Box h = tt
     boxes_from (BLambda b) h = boxes_from b (from_fits b h)
     boxes_from (BLetIn a t) h = (
-      boxes_from a (from_fits a (λ j r d. (both_hold (fits j r [] a) (fits j r [] t) (h j r d)).0)),
-      boxes_from t (from_fits t (λ j r d. (both_hold (fits j r [] a) (fits j r [] t) (h j r d)).1)),
+      boxes_from a (from_fits a (λ j r d. (and_parts (fits j r [] a) (fits j r [] t) (h j r d)).0)),
+      boxes_from t (from_fits t (λ j r d. (and_parts (fits j r [] a) (fits j r [] t) (h j r d)).1)),
     )
     boxes_from (BApp f a) h = (
-      there (spine f) (λ u e d. (both_hold (box_there u.name.0 u.arguments (spine f) a) (fits u.name.0 u.arguments [] a) (parts u.name.0 u.arguments d).1).0),
+      there (spine f) (λ u e d. (and_parts (box_there u.name.0 u.arguments (spine f) a) (fits u.name.0 u.arguments [] a) (parts u.name.0 u.arguments d).1).0),
       boxes_from f (λ j r d. (parts j r d).0),
-      boxes_from a (from_fits a (λ j r d. (both_hold (box_there j r (spine f) a) (fits j r [] a) (parts j r d).1).1)),
+      boxes_from a (from_fits a (λ j r d. (and_parts (box_there j r (spine f) a) (fits j r [] a) (parts j r d).1).1)),
     )
       where
         parts : (j r : ℕ) → D j r ≡ true → (noted j r f ≡ true) × ((box_there j r (spine f) a && fits j r [] a) ≡ true)
-        parts j r d = both_hold (noted j r f) (box_there j r (spine f) a && fits j r [] a) (h j r d)
+        parts j r d = and_parts (noted j r f) (box_there j r (spine f) a && fits j r [] a) (h j r d)
 
         there : (h : Option Use) → ((u : Use) → h ≡ Some u → D u.name.0 u.arguments ≡ true → box_there u.name.0 u.arguments h a ≡ true) → is_dropped D h ≡ true → a ≡ Box
         there None g d = absurd (cc)
@@ -170,16 +169,16 @@ module _ (D : ℕ → ℕ → Bool) where
     boxes_from (BConst c) h = tt
     boxes_from (BConstruct f c) h = tt
     boxes_from (BCase f s bs) h = (
-      boxes_from s (from_fits s (λ j r d. (both_hold (fits j r [] s) (fits_terms j r bs) (h j r d)).0)),
-      boxes_from_terms bs (λ j r d. (both_hold (fits j r [] s) (fits_terms j r bs) (h j r d)).1),
+      boxes_from s (from_fits s (λ j r d. (and_parts (fits j r [] s) (fits_terms j r bs) (h j r d)).0)),
+      boxes_from_terms bs (λ j r d. (and_parts (fits j r [] s) (fits_terms j r bs) (h j r d)).1),
     )
     boxes_from (BFix i rargs bodies) h = boxes_from_terms bodies h
 
     boxes_from_terms : (ts : BoxTerms) → ((j r : ℕ) → D j r ≡ true → fits_terms j r ts ≡ true) → BoxesTerms ts
     boxes_from_terms Done h = tt
     boxes_from_terms (Next n t ts) h = (
-      boxes_from t (from_fits t (λ j r d. (both_hold (fits j r [] t) (fits_terms j r ts) (h j r d)).0)),
-      boxes_from_terms ts (λ j r d. (both_hold (fits j r [] t) (fits_terms j r ts) (h j r d)).1),
+      boxes_from t (from_fits t (λ j r d. (and_parts (fits j r [] t) (fits_terms j r ts) (h j r d)).0)),
+      boxes_from_terms ts (λ j r d. (and_parts (fits j r [] t) (fits_terms j r ts) (h j r d)).1),
     )
 
   pub boxes_of_fits : (t : BoxTerm) → ((j r : ℕ) → D j r ≡ true → fits j r [] t ≡ true) → Boxes t

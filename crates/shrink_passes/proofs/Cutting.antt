@@ -1,5 +1,7 @@
 -- An argument cut from the uses of a constant: nodes, depth and form.
-use Rattle.std.proofs.Common.{◌≡◌, ℕ, zero, suc, ◌+◌, ◌≤◌, Bool, true, false, ◌&&◌, List, [], ◌∷◌, length, Some, subst, refl, ap, ◌∙◌, arith}
+use Rattle.std.proofs.Common.{◌≡◌, ℕ, zero, suc, ◌+◌, ◌≤◌, Bool, true, false, List, [], ◌∷◌, length, Some, subst, refl, ap, ◌∙◌, arith}
+use Rattle.std.proofs.lemmas.Bool.{and_parts, and_from}
+use Rattle.std.proofs.lemmas.Option.{same_Some}
 use Rattle.std.specs.Prelude.{nat_eq, if◌then◌else◌}
 use Rattle.trees.specs.Tree.{Rel, Done, Next, term_at}
 use Rattle.trees.specs.Parallel.{overs, substitute, substitute_terms}
@@ -14,10 +16,6 @@ use Rattle.lambda_box.specs.SaturatedForm.{IsSaturatedAt, AreSaturated}
 use Rattle.lambda_box.specs.OrdinaryForm.{IsOrdinary, AreOrdinary}
 use Rattle.shrink_passes.specs.Uses.{uses, uses_terms}
 use Rattle.shrink_passes.specs.DropParams.{is_spine, box_at, fits, fits_terms, cut, cut_terms}
-
-pub both_hold : (x y : Bool) → (x && y) ≡ true → (x ≡ true) × (y ≡ true)
-both_hold true y e = (refl, e)
-both_hold false y e = absurd (cc)
 
 module _ (k p : ℕ) where
   mutual
@@ -230,29 +228,25 @@ module _ (k p : ℕ) where
     cut_unused_terms Done e = refl
     cut_unused_terms (Next n t ts) e = λ i. Next n (cut_unused t (omega arith) i) (cut_unused_terms ts (omega arith) i)
 
-  both_true : (x y : Bool) → x ≡ true → y ≡ true → (x && y) ≡ true
-  both_true true y e g = g
-  both_true false y e g = absurd (cc)
-
   mutual
     pub fits_unused : (xs : List BoxTerm) (t : BoxTerm) → uses k t ≡ 0 → fits k p xs t ≡ true
     fits_unused xs (Rel i) e = refl
     fits_unused xs Box e = refl
     fits_unused xs (BLambda b) e = fits_unused [] b e
-    fits_unused xs (BLetIn a t) e = both_true (fits k p [] a) (fits k p [] t) (fits_unused [] a (omega arith)) (fits_unused [] t (omega arith))
-    fits_unused xs (BApp f a) e = both_true (fits k p (a ∷ xs) f) (fits k p [] a) (fits_unused (a ∷ xs) f (omega arith)) (fits_unused [] a (omega arith))
+    fits_unused xs (BLetIn a t) e = and_from (fits k p [] a) (fits k p [] t) (fits_unused [] a (omega arith)) (fits_unused [] t (omega arith))
+    fits_unused xs (BApp f a) e = and_from (fits k p (a ∷ xs) f) (fits k p [] a) (fits_unused (a ∷ xs) f (omega arith)) (fits_unused [] a (omega arith))
     fits_unused xs (BConst c) e = either (nat_eq c.0 k) e
       where
         either : (z : Bool) → (if◌then◌else◌ {A = ℕ} z 1 0) ≡ 0 → (if z then box_at p xs else true) ≡ true
         either true e = absurd (omega arith)
         either false e = refl
     fits_unused xs (BConstruct f c) e = refl
-    fits_unused xs (BCase f s bs) e = both_true (fits k p [] s) (fits_terms k p bs) (fits_unused [] s (omega arith)) (fits_unused_terms bs (omega arith))
+    fits_unused xs (BCase f s bs) e = and_from (fits k p [] s) (fits_terms k p bs) (fits_unused [] s (omega arith)) (fits_unused_terms bs (omega arith))
     fits_unused xs (BFix j rargs bodies) e = fits_unused_terms bodies e
 
     fits_unused_terms : (ts : BoxTerms) → uses_terms k ts ≡ 0 → fits_terms k p ts ≡ true
     fits_unused_terms Done e = refl
-    fits_unused_terms (Next n t ts) e = both_true (fits k p [] t) (fits_terms k p ts) (fits_unused [] t (omega arith)) (fits_unused_terms ts (omega arith))
+    fits_unused_terms (Next n t ts) e = and_from (fits k p [] t) (fits_terms k p ts) (fits_unused [] t (omega arith)) (fits_unused_terms ts (omega arith))
 
   -- a spine of q arguments that fits has box as argument p, which is argument m of those that follow
   pub spine_box : (q m : ℕ) (xs : List BoxTerm) (t : BoxTerm) → p ≡ q + m → is_spine k t q ≡ true → fits k p xs t ≡ true → box_at m xs ≡ true
@@ -261,7 +255,7 @@ module _ (k p : ℕ) where
       here : (z : Bool) → z ≡ true → (if z then box_at p xs else true) ≡ true → box_at m xs ≡ true
       here true s h = let q : m ≡ p = omega (arith, e) in ap (λ n. box_at n xs) q ∙ h
       here false s h = absurd (cc)
-  spine_box (suc q) m xs (BApp f a) e s h = spine_box q (suc m) (a ∷ xs) f (omega arith) s (both_hold (fits k p (a ∷ xs) f) (fits k p [] a) h).0
+  spine_box (suc q) m xs (BApp f a) e s h = spine_box q (suc m) (a ∷ xs) f (omega arith) s (and_parts (fits k p (a ∷ xs) f) (fits k p [] a) h).0
   spine_box (suc q) m xs (BConst c) e s h = absurd (cc)
   spine_box zero m xs (BApp f a) e s h = absurd (cc)
   spine_box q m xs (Rel i) e s h = absurd (cc)
@@ -290,15 +284,12 @@ module _ (k p : ℕ) where
 
   -- a tree of a list
 
-  one_item : {A : Type 0} {x y : A} → Some x ≡ Some y → x ≡ y
-  one_item e = grind arith
-
   pub cut_at : (s : ℕ → BoxTerm) (ts : BoxTerms) (i n : ℕ) (t : BoxTerm) → term_at ts i ≡ Some (n, t) → term_at (substitute_terms s (cut_terms k p ts)) i ≡ Some (n, substitute (overs n s) (cut k p t))
   cut_at s Done i n t e = absurd (cc)
-  cut_at s (Next m u ts) zero n t e = ap (λ q. Some (q.0, substitute (overs q.0 s) (cut k p q.1))) (one_item e)
+  cut_at s (Next m u ts) zero n t e = ap (λ q. Some (q.0, substitute (overs q.0 s) (cut k p q.1))) (same_Some _ _ e)
   cut_at s (Next m u ts) (suc i) n t e = cut_at s ts i n t e
 
   pub fits_at : (ts : BoxTerms) (i n : ℕ) (t : BoxTerm) → fits_terms k p ts ≡ true → term_at ts i ≡ Some (n, t) → fits k p [] t ≡ true
   fits_at Done i n t f e = absurd (cc)
-  fits_at (Next m u ts) zero n t f e = subst (λ (q : ℕ × BoxTerm). fits k p [] q.1 ≡ true) (one_item e) (both_hold (fits k p [] u) (fits_terms k p ts) f).0
-  fits_at (Next m u ts) (suc i) n t f e = fits_at ts i n t (both_hold (fits k p [] u) (fits_terms k p ts) f).1 e
+  fits_at (Next m u ts) zero n t f e = subst (λ (q : ℕ × BoxTerm). fits k p [] q.1 ≡ true) (same_Some _ _ e) (and_parts (fits k p [] u) (fits_terms k p ts) f).0
+  fits_at (Next m u ts) (suc i) n t f e = fits_at ts i n t (and_parts (fits k p [] u) (fits_terms k p ts) f).1 e

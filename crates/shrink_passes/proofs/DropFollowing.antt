@@ -2,7 +2,7 @@
 -- the lambda gives before.
 use Rattle.std.proofs.Common.{◌≡◌, ℕ, zero, suc, ◌+◌, ◌-◌, ◌<◌, ◌≤◌, Bool, true, false, ◌&&◌, ◌||◌, List, [], ◌∷◌, ◌++◌, length, Some, refl, sym, ap, ◌∙◌, subst, arith, ◌⊎◌, inl, inr, ⊎_elim}
 use Rattle.std.specs.Prelude.{nat_eq, if◌then◌else◌}
-use Rattle.std.proofs.lemmas.Bool.{eqb-true, eq-eqb}
+use Rattle.std.proofs.lemmas.Bool.{eqb-true, eq-eqb, and_parts, and_from, or_cases, or_left, or_right}
 use Rattle.trees.proofs.Fusion.{substitute_rel, rename_same}
 use Rattle.trees.specs.Tree.{Rel, Done, Next, term_at}
 use Rattle.trees.specs.Parallel.{rename, over, overs, put, substitute, substitute_terms, first}
@@ -14,12 +14,13 @@ use Rattle.lambda_box.specs.BoxData.{Data}
 use Rattle.lambda_box.specs.DataTerms.{ValuesHold, hold_none, hold_last}
 use Rattle.lambda_box.specs.ClosureEvaluation.{names, names_terms, ClosureValue, VBox, VConstruct, VClosure, VFix, ClosureValues, NoValue, Then, ClosureEnv, Empty, Bind, BindFix, size, bind_all, box_values, Held, Holds, Defines, Finds, found, later, found_fix, past_fix, one_if, any_below, words, closure_words, fix_words, Counts, nothing, contraction, entered_match, block, ◌⊕◌, ClosureRun, run_box, run_value, run_definition, run_lambda, run_fix, run_constant, run_let, run_app, run_box_app, run_fix_app, run_fix_box, run_construct, run_match, run_only, RunArgs, run_head, run_arg, ValueReads, value_reads, ValuesRead, no_values, and_then}
 use Rattle.box_passes.specs.Saturate.{innermost, lambdas}
+use Rattle.box_passes.proofs.Filling.{box_values_size}
 use Rattle.shrink_passes.specs.Uses.{uses}
 use Rattle.shrink_passes.specs.DropParams.{is_spine, box_at, fits, fits_terms, cut, cut_terms}
 use Rattle.shrink_passes.specs.ShrinkLaws.{AreNoMore, RunsWithin}
 use Rattle.shrink_passes.proofs.RunShapes.{closure_not_box, closure_not_fix, not_true, overs_rel_same, box_further, block_less, RunsBox, box_runs, lambda_runs, over_rel, box_is_box, names_lambdas, closure_env, closure_body}
-use Rattle.shrink_passes.proofs.Cutting.{cut_at, fits_at, one_spine, both_hold, cut_unused, fits_unused, spine_box}
-use Rattle.shrink_passes.proofs.Thinning.{Thins, thins_rel, thins_over, thins_overs, thins_first, overs_past, overs_below, named_before, named_before_terms, named_cut, named_cut_terms, either_true, left_true, right_true, same_variable}
+use Rattle.shrink_passes.proofs.Cutting.{cut_at, fits_at, one_spine, cut_unused, fits_unused, spine_box}
+use Rattle.shrink_passes.proofs.Thinning.{Thins, thins_rel, thins_over, thins_overs, thins_first, overs_past, overs_below, named_before, named_before_terms, named_cut, named_cut_terms, same_variable}
 use Rattle.shrink_passes.proofs.Following.{no_more_self, no_more_sum}
 
 module _ (k p : ℕ) (t0 : BoxTerm) (none : uses k t0 ≡ 0) where
@@ -65,11 +66,7 @@ module _ (k p : ℕ) (t0 : BoxTerm) (none : uses k t0 ≡ 0) where
   any_less : (n : ℕ) (s : ℕ → BoxTerm) (N M : ℕ → Bool) → ((i : ℕ) → i < n → M i ≡ true → N i ≡ true) → any_below n M ≡ true → any_below n N ≡ true
   any_less zero s N M f e = e
   any_less (suc n) s N M f e =
-      ⊎_elim (λ a. left_true (N n) (any_below n N) (f n (omega arith) a)) (λ b. right_true (N n) (any_below n N) (any_less n s N M (λ i l. f i (omega arith)) b)) (either_true (M n) (any_below n M) e)
-
-  both_true : (x y : Bool) → x ≡ true → y ≡ true → (x && y) ≡ true
-  both_true true y e g = g
-  both_true false y e g = absurd (cc)
+      ⊎_elim (λ a. or_left (N n) (any_below n N) (f n (omega arith) a)) (λ b. or_right (N n) (any_below n N) (any_less n s N M (λ i l. f i (omega arith)) b)) (or_cases (M n) (any_below n M) e)
 
   words_like : {e e' : ClosureEnv} {s : ℕ → BoxTerm} → LikeEnv e e' s → (N M : ℕ → Bool) → Covers s N M → words e' M ≤ words e N
   words_like like_empty N M c = omega arith
@@ -79,13 +76,13 @@ module _ (k p : ℕ) (t0 : BoxTerm) (none : uses k t0 ≡ 0) where
   words_like (like_bind_fix {rargs = rargs} {bodies = bs} {s = s} h f) N M c =
       words_like h (λ i. N (length rargs + i) || (any_below (length rargs) N && names_terms bs i)) (λ i. M (length rargs + i) || (any_below (length rargs) M && names_terms (substitute_terms s (cut_terms k p bs)) i))
       (λ i j e m. ⊎_elim
-      (λ a. left_true (N (length rargs + i)) (any_below (length rargs) N && names_terms bs i) (c (length rargs + i) (length rargs + j) (overs_past (length rargs) s i j e) a))
+      (λ a. or_left (N (length rargs + i)) (any_below (length rargs) N && names_terms bs i) (c (length rargs + i) (length rargs + j) (overs_past (length rargs) s i j e) a))
       (λ b.
-      let both = both_hold (any_below (length rargs) M) (names_terms (substitute_terms s (cut_terms k p bs)) j) b in
-      right_true (N (length rargs + i)) (any_below (length rargs) N && names_terms bs i)
-      (both_true (any_below (length rargs) N) (names_terms bs i) (any_less (length rargs) s N M (λ x l. c x x (overs_below (length rargs) s x l)) both.0)
+      let both = and_parts (any_below (length rargs) M) (names_terms (substitute_terms s (cut_terms k p bs)) j) b in
+      or_right (N (length rargs + i)) (any_below (length rargs) N && names_terms bs i)
+      (and_from (any_below (length rargs) N) (names_terms bs i) (any_less (length rargs) s N M (λ x l. c x x (overs_below (length rargs) s x l)) both.0)
       (named_cut_terms k p bs i (named_before_terms s (env_thins h) (cut_terms k p bs) i j e both.1))))
-      (either_true (M (length rargs + j)) (any_below (length rargs) M && names_terms (substitute_terms s (cut_terms k p bs)) j) m))
+      (or_cases (M (length rargs + j)) (any_below (length rargs) M && names_terms (substitute_terms s (cut_terms k p bs)) j) m))
 
   closure_less : {e e' : ClosureEnv} {s : ℕ → BoxTerm} (t : BoxTerm) → LikeEnv e e' s → closure_words e' (substitute (over s) (cut k p t)) ≤ closure_words e t
   closure_less {s = s} t h =
@@ -174,10 +171,6 @@ module _ (k p : ℕ) (t0 : BoxTerm) (none : uses k t0 ≡ 0) where
   boxes_like : (n : ℕ) → LikeAll (box_values n) (box_values n)
   boxes_like zero = like_none
   boxes_like (suc n) = like_more like_box (boxes_like n)
-
-  size_boxes : (n : ℕ) → size (box_values n) ≡ n
-  size_boxes zero = refl
-  size_boxes (suc n) = ap suc (size_boxes n)
 
   -- what a like value is
 
@@ -426,12 +419,12 @@ module _ (k p : ℕ) (t0 : BoxTerm) (none : uses k t0 ≡ 0) where
           first_reached zero m e z y g = g m e
           first_reached (suc q) m e z y g = absurd (cc)
       follows (run_let {b = a} {t = t} r s) h xs f =
-          let both = both_hold (fits k p [] a) (fits k p [] t) f in
+          let both = and_parts (fits k p [] a) (fits k p [] t) f in
           let x = (follows r h [] both.0).ran (plain_alone a both.0) in
           let y = (follows s (like_bind x.like h) [] both.1).ran (plain_alone t both.1) in
           alone (λ q. refl) (record { w = y.w; counts = contraction ⊕ x.counts ⊕ y.counts; run = run_let x.run y.run; like = y.like; no_more = no_more_sum (no_more_self contraction) (no_more_sum x.no_more y.no_more) })
       follows {e' = e'} {s = s} (run_app {e' = d1} {f = g} {a = a} {b = b} {v = u} r q z) h xs f =
-          let both = both_hold (fits k p (a ∷ xs) g) (fits k p [] a) f in
+          let both = and_parts (fits k p (a ∷ xs) g) (fits k p [] a) f in
           let x = follows r h (a ∷ xs) both.0 in
           let y = (follows q h [] both.1).ran (plain_alone a both.1) in
           application x
@@ -452,7 +445,7 @@ module _ (k p : ℕ) (t0 : BoxTerm) (none : uses k t0 ≡ 0) where
           })
           (λ m w. argument_reached g a s m w y z)
       follows {e' = e'} {s = s} (run_box_app {f = g} {a = a} r q) h xs f =
-          let both = both_hold (fits k p (a ∷ xs) g) (fits k p [] a) f in
+          let both = and_parts (fits k p (a ∷ xs) g) (fits k p [] a) f in
           let x = follows r h (a ∷ xs) both.0 in
           let y = (follows q h [] both.1).ran (plain_alone a both.1) in
           application x (λ e w. absurd (closure_not_box w.is))
@@ -465,7 +458,7 @@ module _ (k p : ℕ) (t0 : BoxTerm) (none : uses k t0 ≡ 0) where
           })
           (λ m w. absurd (closure_not_box w.is))
       follows {e' = e'} {s = s} (run_fix_app {e' = d} {f = g} {a = a} {b = t} {i = i} {rargs = rargs} {bodies = bs} r q at z) h xs f =
-          let both = both_hold (fits k p (a ∷ xs) g) (fits k p [] a) f in
+          let both = and_parts (fits k p (a ∷ xs) g) (fits k p [] a) f in
           let x = follows r h (a ∷ xs) both.0 in
           let y = (follows q h [] both.1).ran (plain_alone a both.1) in
           application x (λ e w. absurd (closure_not_fix w.is))
@@ -482,7 +475,7 @@ module _ (k p : ℕ) (t0 : BoxTerm) (none : uses k t0 ≡ 0) where
           })
           (λ m w. absurd (closure_not_fix w.is))
       follows {e' = e'} {s = s} (run_fix_box {e' = d} {f = g} {a = a} {i = i} {rargs = rargs} {bodies = bs} r q at) h xs f =
-          let both = both_hold (fits k p (a ∷ xs) g) (fits k p [] a) f in
+          let both = and_parts (fits k p (a ∷ xs) g) (fits k p [] a) f in
           let x = follows r h (a ∷ xs) both.0 in
           let y = (follows q h [] both.1).ran (plain_alone a both.1) in
           application x (λ e w. absurd (closure_not_fix w.is))
@@ -500,7 +493,7 @@ module _ (k p : ℕ) (t0 : BoxTerm) (none : uses k t0 ≡ 0) where
           let x = follows_args r h xs f in
           alone (args_no_spine r) (record { w = _; counts = _; run = run_construct (family kept) at (size_like x.like ∙ l) x.run; like = like_construct x.like; no_more = no_more_sum x.no_more (no_more_self _) })
       follows {e' = e'} {s = s} (run_match {f = name} {i = i} {s = m} {t = t} {bs = bs} {vs = vs} kept prop r at q) h xs f =
-          let both = both_hold (fits k p [] m) (fits_terms k p bs) f in
+          let both = and_parts (fits k p [] m) (fits_terms k p bs) f in
           let x = (follows r h [] both.0).ran (plain_alone m both.0) in
           let g = construct_like x.like in
           let fit = fits_at k p bs i (size vs) t both.1 at in
@@ -514,11 +507,11 @@ module _ (k p : ℕ) (t0 : BoxTerm) (none : uses k t0 ≡ 0) where
             no_more = no_more_sum (no_more_self entered_match) (no_more_sum x.no_more y.no_more);
           })
       follows {e' = e'} {s = s} (run_only {k = n} {s = m} {t = t} kept prop r q) h xs f =
-          let both = both_hold (fits k p [] m) (fits_terms k p (Next n t Done)) f in
+          let both = and_parts (fits k p [] m) (fits_terms k p (Next n t Done)) f in
           let x = (follows r h [] both.0).ran (plain_alone m both.0) in
-          let fit = (both_hold (fits k p [] t) true both.1).0 in
+          let fit = (and_parts (fits k p [] t) true both.1).0 in
           let y = (follows q (bind_like (boxes_like n) h) [] fit).ran (plain_alone t fit) in
-          let run = subst (λ (i : ℕ). ClosureRun Q (bind_all (box_values n) e') (substitute (overs i s) (cut k p t)) y.w y.counts) (size_boxes n) y.run in
+          let run = subst (λ (i : ℕ). ClosureRun Q (bind_all (box_values n) e') (substitute (overs i s) (cut k p t)) y.w y.counts) (box_values_size n) y.run in
           alone (λ q. refl) (record {
             w = y.w;
             counts = entered_match ⊕ x.counts ⊕ y.counts;
@@ -530,7 +523,7 @@ module _ (k p : ℕ) (t0 : BoxTerm) (none : uses k t0 ≡ 0) where
       pub follows_args : {e e' : ClosureEnv} {s : ℕ → BoxTerm} {f : FamilyId} {i : ℕ} {t : BoxTerm} {vs : ClosureValues} {c : Counts} → RunArgs P e f i t vs c → LikeEnv e e' s → (xs : List BoxTerm) → fits k p xs t ≡ true → RanArgs e' f i (substitute s (cut k p t)) vs c
       follows_args run_head h xs f = record { ws = NoValue; counts = nothing; run = run_head; like = like_none; no_more = no_more_self nothing }
       follows_args {e' = e'} {s = s} {f = name} {i = i} {vs = vs} {c = c} (run_arg {t = g} {a = a} r q) h xs f =
-          let both = both_hold (fits k p (a ∷ xs) g) (fits k p [] a) f in
+          let both = and_parts (fits k p (a ∷ xs) g) (fits k p [] a) f in
           let x = follows_args r h (a ∷ xs) both.0 in
           let y = (follows q h [] both.1).ran (plain_alone a both.1) in
           subst (λ z. RanArgs e' name i (substitute s (if z then cut k p g else BApp (cut k p g) (cut k p a))) vs c) (sym (args_no_spine r p))
@@ -565,7 +558,7 @@ module _ (k p : ℕ) (t0 : BoxTerm) (none : uses k t0 ≡ 0) where
     fits_further (BLambda b) xs ys e = e
     fits_further (BLetIn a t) xs ys e = e
     fits_further (BApp f a) xs ys e =
-        let both = both_hold (fits k p (a ∷ xs) f) (fits k p [] a) e in both_true (fits k p (a ∷ xs ++ ys) f) (fits k p [] a) (fits_further f (a ∷ xs) ys both.0) both.1
+        let both = and_parts (fits k p (a ∷ xs) f) (fits k p [] a) e in and_from (fits k p (a ∷ xs ++ ys) f) (fits k p [] a) (fits_further f (a ∷ xs) ys both.0) both.1
     fits_further (BConst c) xs ys e = either (nat_eq c.0 k) e
       where
         either : (z : Bool) → (if z then box_at p xs else true) ≡ true → (if z then box_at p (xs ++ ys) else true) ≡ true
@@ -576,7 +569,7 @@ module _ (k p : ℕ) (t0 : BoxTerm) (none : uses k t0 ≡ 0) where
     fits_further (BFix i rargs bodies) xs ys e = e
 
     one_more_fits : (n : ℕ) (t : BoxTerm) → fits k p [] t ≡ true → fits k p [] (BApp t (Rel n)) ≡ true
-    one_more_fits n t e = both_true (fits k p (Rel n ∷ []) t) true (fits_further t [] (Rel n ∷ []) e) refl
+    one_more_fits n t e = and_from (fits k p (Rel n ∷ []) t) true (fits_further t [] (Rel n ∷ []) e) refl
 
     spine_fits : (n : ℕ) (t : BoxTerm) → fits k p [] t ≡ true → fits k p [] (box_apply t (innermost n)) ≡ true
     spine_fits zero t e = e

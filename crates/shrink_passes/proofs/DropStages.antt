@@ -1,7 +1,7 @@
 -- The places that the walk at the start notes are those that the steps drop, one by one.
-use Rattle.std.proofs.Common.{◌≡◌, ℕ, zero, suc, ◌+◌, ◌-◌, ◌<◌, ◌≤◌, Bool, true, false, ◌&&◌, List, [], ◌∷◌, Option, Some, None, refl, sym, ap, ◌∙◌, subst, arith, ◌⊎◌, inl, inr, ⊎_elim}
+use Rattle.std.proofs.Common.{◌≡◌, ℕ, zero, suc, ◌+◌, ◌-◌, ◌<◌, ◌≤◌, Bool, true, false, ◌&&◌, List, [], ◌∷◌, Option, Some, None, refl, sym, ap, ◌∙◌, subst, arith, ⊎_elim}
 use Rattle.std.specs.Prelude.{nat_eq, if◌then◌else◌, reverse}
-use Rattle.std.proofs.lemmas.Bool.{cases_lt, eqb-true, eq-eqb}
+use Rattle.std.proofs.lemmas.Bool.{cases_lt, eqb-true, eq-eqb, and_parts}
 use mathlib.Core.Path.{fun_ext}
 use Rattle.trees.specs.Tree.{Rel, Done, Next}
 use Rattle.trees.specs.Parallel.{first, over, substitute}
@@ -19,7 +19,7 @@ use Rattle.shrink_passes.specs.DeadPlaces.{is_below, is_unnamed, is_candidate, i
 use Rattle.shrink_passes.specs.Pruned.{is_dropped, pruned, pruned_terms, pruned_constant, unwrapped}
 use Rattle.shrink_passes.proofs.Forming.{Fresh, Apart, apart_from, done_ordered, done_apart, named_unused, ordered_unused, body_form, body_unused, Later, later}
 use Rattle.shrink_passes.proofs.Deciding.{start_program}
-use Rattle.shrink_passes.proofs.Cutting.{both_hold, fits_unused}
+use Rattle.shrink_passes.proofs.Cutting.{fits_unused}
 use Rattle.shrink_passes.specs.ShrinkLaws.{Shrinks}
 use Rattle.shrink_passes.proofs.DropSteps.{params_steps, step, drop_is_right}
 use Rattle.shrink_passes.proofs.Thinning.{Thins, thins_rel, thins_over, thins_first}
@@ -200,11 +200,11 @@ module _ (T : ℕ → ℕ → Bool) (Fs : List BoxFamily) (main : BoxTerm) where
       fits_rest : (q : ℕ) (es : List BoxConstant) → ((j r : ℕ) → T j r ≡ true → fits_constants j r es ≡ true) → fits_mapped k (kept_below (upto q k) q) (pruned (upto q)) es ≡ fits_constants k q es
       fits_rest q [] h = refl
       fits_rest q (e ∷ es) h =
-          let fit = fits_pruned (upto q) k q (upto_out q) e.body (upto_boxes q e.body (λ j r t. (both_hold (fits j r [] e.body) (fits_constants j r es) (h j r t)).0)) in
-          λ i. fit i && fits_rest q es (λ j r t. (both_hold (fits j r [] e.body) (fits_constants j r es) (h j r t)).1) i
+          let fit = fits_pruned (upto q) k q (upto_out q) e.body (upto_boxes q e.body (λ j r t. (and_parts (fits j r [] e.body) (fits_constants j r es) (h j r t)).0)) in
+          λ i. fit i && fits_rest q es (λ j r t. (and_parts (fits j r [] e.body) (fits_constants j r es) (h j r t)).1) i
 
       rest_fit : (j r : ℕ) → T j r ≡ true → fits_constants j r rest ≡ true
-      rest_fit j r t = (both_hold (fits j r [] d.body) (fits_constants j r rest) (S.fitting j r t)).1
+      rest_fit j r t = (and_parts (fits j r [] d.body) (fits_constants j r rest) (S.fitting j r t)).1
 
       own_fits : (q : ℕ) (b : BoxTerm) → IsBoxProgram (now q b) → fits_constants k (P q) (record { name = d.name; body = b } ∷ done) ≡ true
       own_fits q b ok =
@@ -318,7 +318,7 @@ module _ (T : ℕ → ℕ → Bool) (Fs : List BoxFamily) (main : BoxTerm) where
       -- the constant
 
       body_boxes : Boxes D d.body
-      body_boxes = boxes_of_fits D d.body (λ j r e. (both_hold (fits j r [] d.body) (fits_constants j r rest) (S.fitting j r (S.inside j r e))).0)
+      body_boxes = boxes_of_fits D d.body (λ j r e. (and_parts (fits j r [] d.body) (fits_constants j r rest) (S.fitting j r (S.inside j r e))).0)
 
       body_same : pruned D d.body ≡ pruned T d.body
       body_same = pruned_same D T d.body (λ j l r. S.agree j (fresh j (omega (arith, l, pruned_uses D j d.body body_boxes))) r)
@@ -424,7 +424,7 @@ module _ (P : BoxProgram) (ok : IsBoxProgram P) where
   known = known_from T P.families P.main [] (reverse P.constants) start (λ k q. false) (λ e h q. refl)
 
   main_fits : (j r : ℕ) → T j r ≡ true → fits j r [] P.main ≡ true
-  main_fits j r t = (both_hold (is_candidate j r (reverse P.constants) false && fits_constants j r (reverse P.constants)) (fits j r [] P.main) t).1
+  main_fits j r t = (and_parts (is_candidate j r (reverse P.constants) false && fits_constants j r (reverse P.constants)) (fits j r [] P.main) t).1
 
   none_of_none : (j : ℕ) → Fresh j (reverse P.constants) → (r : ℕ) → false ≡ T j r
   none_of_none j f r = sym (ap (λ z. (z && fits_constants j r (reverse P.constants)) && fits j r [] P.main) (candidate_fresh j r (reverse P.constants) false f))
@@ -436,7 +436,7 @@ module _ (P : BoxProgram) (ok : IsBoxProgram P) where
     agree = none_of_none;
     out = λ h r. refl;
     known = known;
-    fitting = λ j r t. (both_hold (is_candidate j r (reverse P.constants) false) (fits_constants j r (reverse P.constants)) (both_hold (is_candidate j r (reverse P.constants) false && fits_constants j r (reverse P.constants)) (fits j r [] P.main) t).0).1;
+    fitting = λ j r t. (and_parts (is_candidate j r (reverse P.constants) false) (fits_constants j r (reverse P.constants)) (and_parts (is_candidate j r (reverse P.constants) false && fits_constants j r (reverse P.constants)) (fits j r [] P.main) t).0).1;
   }
 
   pub dropped_at_once : drop_program P ≡ record { constants = through T (reverse P.constants) []; families = P.families; main = pruned T P.main }
@@ -448,7 +448,7 @@ module _ (P : BoxProgram) (ok : IsBoxProgram P) where
     (
       pruned_closed T 0 d.body (body_form P.families done (λ t. t) d es P.main ok).closed,
       (λ p t.
-          let u = (both_hold (is_unused p d.body) (fits_constants d.name.0 p es) (both_hold (is_unused p d.body && fits_constants d.name.0 p es) (fits d.name.0 p [] P.main) (sym (k.0 p) ∙ t)).0).0 in
+          let u = (and_parts (is_unused p d.body) (fits_constants d.name.0 p es) (and_parts (is_unused p d.body && fits_constants d.name.0 p es) (fits d.name.0 p [] P.main) (sym (k.0 p) ∙ t)).0).0 in
           omega (arith, pruned_leading T d.body, unused_leads p d.body u)),
     ),
     ready_from (changed (λ t. t) d ∷ done) es ok k.1,

@@ -1,5 +1,6 @@
 -- The laws of dropping parameters.
 use Rattle.std.proofs.Common.{◌≡◌, ℕ, zero, suc, ◌≤◌, Bool, true, false, List, [], ◌∷◌, refl, sym, ap, ◌∙◌, subst, arith, ◌⊎◌, inl, inr, ⊎_elim}
+use Rattle.std.proofs.lemmas.Bool.{and_parts}
 use Rattle.std.specs.Prelude.{if◌then◌else◌, reverse}
 use Rattle.trees.specs.Measures.{nodes, depth}
 use Rattle.trees.specs.Parallel.{put, substitute}
@@ -16,10 +17,10 @@ use Rattle.shrink_passes.specs.Inline.{changed, standing, stands}
 use Rattle.shrink_passes.specs.DropParams.{fits, fits_constants, fits_program, cut, is_unused, without_lambda, with_constant, is_dead, without_params, leading, drop_from, drop_program}
 use Rattle.shrink_passes.specs.ShrinkLaws.{KeepsRuns, Shrinks, DropIsRight}
 use Rattle.shrink_passes.proofs.Standing.{total_standing, greatest_standing, nodes_total, greatest_le}
-use Rattle.shrink_passes.proofs.Forming.{Fresh, Apart, apart_from, apart_pairs, done_ordered, done_apart, Coming, coming, has_other, has_split, named_unused, ordered_unused}
+use Rattle.shrink_passes.proofs.Forming.{Apart, apart_from, apart_pairs, done_ordered, done_apart, Coming, coming, has_other, has_split, named_unused, ordered_unused, standing_apart}
 use Rattle.shrink_passes.proofs.InlineSteps.{of_standing, to_done, to_rest, no_step, more_steps}
 use Rattle.shrink_passes.proofs.Deciding.{start_program}
-use Rattle.shrink_passes.proofs.Cutting.{both_hold, cut_nodes, cut_depth, cut_body, cut_saturated, cut_ordinary, cut_unused, fits_unused}
+use Rattle.shrink_passes.proofs.Cutting.{cut_nodes, cut_depth, cut_body, cut_saturated, cut_ordinary, cut_unused, fits_unused}
 use Rattle.shrink_passes.proofs.ThinForms.{without_nodes, without_depth, without_saturated, without_ordinary, without_body}
 use Rattle.shrink_passes.proofs.DropFollowing.{keeps_runs}
 
@@ -53,9 +54,6 @@ same_more x y e cs ds same c (t, h) =
     ⊎_elim (λ q. (y.body, subst (λ (n : Name). Has (y ∷ ds) (record { name = n; body = y.body })) (sym (ap (λ (z : BoxConstant). z.name) q ∙ e)) here))
     (λ h. let r = same c (t, h) in (r.0, there r.1)) (has_split h)
 
-abbrev Fewer : List BoxConstant → List BoxConstant → Type 0
-Fewer cs ds = (x : ℕ) → Fresh x cs → Fresh x ds
-
 module _ (k p : ℕ) (f : BoxTerm → BoxTerm) where
   abbrev g : BoxTerm → BoxTerm
   g t = cut k p (f t)
@@ -69,11 +67,6 @@ module _ (k p : ℕ) (f : BoxTerm → BoxTerm) where
   standing_ordered Fs (d ∷ rest) cs ds same o q =
       let body = (done_ordered f Fs rest (changed f d ∷ cs) o).0 in
       standing_ordered Fs rest (changed f d ∷ cs) (changed g d ∷ ds) (same_more (changed f d) (changed g d) refl cs ds same) o (same_body Fs cs ds same (g d.body) (cut_body k p Fs cs (f d.body) body), q)
-
-  standing_apart : (rest cs ds : List BoxConstant) → Fewer cs ds → Apart (standing f rest cs) → Apart ds → Apart (standing g rest ds)
-  standing_apart [] cs ds fewer h q = q
-  standing_apart (d ∷ rest) cs ds fewer h q =
-      standing_apart rest (changed f d ∷ cs) (changed g d ∷ ds) (λ x y. (y.0, fewer x y.1)) h (fewer d.name.0 (done_apart f rest (changed f d ∷ cs) h).0, q)
 
 -- the lambda that is dropped, and what it is round
 record Lambda (p : ℕ) (b : BoxTerm) : Type 0 where
@@ -92,8 +85,8 @@ uses_lambdas k (suc n) t = uses_lambdas k n t
 
 pub fits_member : (k p : ℕ) (cs : List BoxConstant) {x : BoxConstant} → fits_constants k p cs ≡ true → Has cs x → fits k p [] x.body ≡ true
 fits_member k p [] e h = elim h [ ]
-fits_member k p (d ∷ cs) e here = (both_hold (fits k p [] d.body) (fits_constants k p cs) e).0
-fits_member k p (d ∷ cs) e (there h) = fits_member k p cs (both_hold (fits k p [] d.body) (fits_constants k p cs) e).1 h
+fits_member k p (d ∷ cs) e here = (and_parts (fits k p [] d.body) (fits_constants k p cs) e).0
+fits_member k p (d ∷ cs) e (there h) = fits_member k p cs (and_parts (fits k p [] d.body) (fits_constants k p cs) e).1 h
 
 module _ (Fs : List BoxFamily) (done : List BoxConstant) (d : BoxConstant) (rest : List BoxConstant) (main : BoxTerm) (p : ℕ) (b : BoxTerm) (f : BoxTerm → BoxTerm)
     (ok : IsBoxProgram (with_constant Fs done d b f rest main)) (dead : is_dead Fs done d p b f rest main ≡ true) where
@@ -113,10 +106,10 @@ module _ (Fs : List BoxFamily) (done : List BoxConstant) (d : BoxConstant) (rest
   new = record { name = d.name; body = without_lambda p b }
 
   parts : (is_unused p b ≡ true) × (fits_program k p now ≡ true)
-  parts = both_hold (is_unused p b) (fits_program k p now) dead
+  parts = and_parts (is_unused p b) (fits_program k p now) dead
 
   fitting : (fits_constants k p now.constants ≡ true) × (fits k p [] now.main ≡ true)
-  fitting = both_hold (fits_constants k p now.constants) (fits k p [] now.main) parts.1
+  fitting = and_parts (fits_constants k p now.constants) (fits k p [] now.main) parts.1
 
   lambda : Lambda p b
   lambda = lambda_at p b parts.0
@@ -154,7 +147,7 @@ module _ (Fs : List BoxFamily) (done : List BoxConstant) (d : BoxConstant) (rest
       let same = same_more old new refl done done (λ c h. h) in
       record {
         constants = standing_ordered k p f Fs rest (old ∷ done) (new ∷ done) same ok.constants (without_body Fs done p b ordered.0, ordered.1);
-        distinct_constants = apart_pairs next.constants (standing_apart k p f rest (old ∷ done) (new ∷ done) (λ x h. h) apart own_apart);
+        distinct_constants = apart_pairs next.constants (standing_apart f (λ t. cut k p (f t)) rest (old ∷ done) (new ∷ done) (λ x h. h) apart own_apart);
         distinct_families = ok.distinct_families;
         counts = ok.counts;
         main = same_body Fs now.constants next.constants (standing_same k p f rest (old ∷ done) (new ∷ done) same) next.main (cut_body k p Fs now.constants now.main ok.main);

@@ -1,7 +1,8 @@
 -- Evaluation with environments follows a step of inlining: a closed body gives the same in its use's environment as in the empty one.
-use Rattle.std.proofs.Common.{◌≡◌, ℕ, zero, suc, ◌+◌, ◌<◌, ◌≤◌, Bool, true, false, ◌&&◌, ◌||◌, List, [], ◌∷◌, ◌++◌, length, Some, refl, sym, ap, ◌∙◌, subst, arith, ◌⊎◌, ⊎_elim}
+use Rattle.std.proofs.Common.{◌≡◌, ℕ, zero, suc, ◌+◌, ◌<◌, ◌≤◌, Bool, true, false, ◌&&◌, ◌||◌, List, ◌∷◌, length, Some, refl, sym, ap, ◌∙◌, subst, arith, ◌⊎◌, ⊎_elim}
 use Rattle.std.specs.Prelude.{nat_eq, if◌then◌else◌}
-use Rattle.std.proofs.lemmas.Bool.{eq-eqb}
+use Rattle.std.proofs.lemmas.Bool.{eq-eqb, or_from, and_right}
+use Rattle.std.proofs.lemmas.Option.{same_Some}
 use Rattle.trees.specs.Tree.{Slot, Rel, Node, Places, End, Child, Group, Done, Next, term_at}
 use Rattle.trees.specs.Closed.{Closed, ClosedChildren, ClosedTerms}
 use Rattle.trees.proofs.Bounds.{closed_at}
@@ -12,7 +13,11 @@ use Rattle.lambda_box.specs.BoxProgram.{BoxFamily, BoxProgram, Has, KeepsBoxCons
 use Rattle.lambda_box.specs.ClosureEvaluation.{names, names_places, names_terms, ClosureValue, VBox, VConstruct, VClosure, VFix, ClosureValues, NoValue, Then, ClosureEnv, Empty, Bind, BindFix, size, bind_all, box_values, Held, Holds, Defines, Finds, found, later, found_fix, past_fix, one_if, any_below, words, Counts, nothing, contraction, entered_match, block, ◌⊕◌, ClosureRun, run_box, run_value, run_definition, run_lambda, run_fix, run_constant, run_let, run_app, run_box_app, run_fix_app, run_fix_box, run_construct, run_match, run_only, RunArgs, run_head, run_arg, ValueReads, value_reads, ValuesRead, no_values, and_then}
 use Rattle.lambda_box.specs.BoxData.{Data}
 use Rattle.lambda_box.specs.DataTerms.{ValuesHold, hold_none, hold_last}
+use Rattle.lambda_box.proofs.Spines.{closed_term_at}
 use Rattle.box_passes.specs.Saturate.{innermost}
+use Rattle.box_passes.proofs.Widths.{words_none}
+use Rattle.box_passes.proofs.Filling.{box_values_size}
+use Rattle.box_passes.proofs.SaturatedWidths.{held_count}
 use Rattle.shrink_passes.specs.Uses.{uses}
 use Rattle.shrink_passes.specs.Inline.{put_in, put_in_terms}
 use Rattle.shrink_passes.specs.ShrinkLaws.{AreNoMore, RunsWithin}
@@ -20,14 +25,6 @@ use Rattle.shrink_passes.proofs.Putting.{unused}
 use Rattle.shrink_passes.proofs.Forming.{closed_more}
 
 -- a closed term names no variable past its bound
-
-pub neither : (a b : Bool) → a ≡ false → b ≡ false → (a || b) ≡ false
-neither true b e g = cc
-neither false b e g = g
-
-pub neither_and : (a b : Bool) → b ≡ false → (a && b) ≡ false
-neither_and true b e = e
-neither_and false b e = refl
 
 other_number : (j i : ℕ) → j < i → nat_eq j i ≡ false
 other_number j i l = grind (arith, l)
@@ -39,12 +36,12 @@ mutual
 
   pub names_past_places : (n : ℕ) {ss : List Slot} (ts : Places BoxLabel box_slots ss) (i : ℕ) → ClosedChildren n ts → n ≤ i → names_places ts i ≡ false
   names_past_places n End i c l = refl
-  names_past_places n (Child {n = m} t ts) i c l = neither (names t (m + i)) (names_places ts i) (names_past (m + n) t (m + i) c.0 (omega arith)) (names_past_places n ts i c.1 l)
-  names_past_places n (Group us ts) i c l = neither (names_terms us i) (names_places ts i) (names_past_terms n us i c.0 l) (names_past_places n ts i c.1 l)
+  names_past_places n (Child {n = m} t ts) i c l = or_from (names t (m + i)) (names_places ts i) (names_past (m + n) t (m + i) c.0 (omega arith)) (names_past_places n ts i c.1 l)
+  names_past_places n (Group us ts) i c l = or_from (names_terms us i) (names_places ts i) (names_past_terms n us i c.0 l) (names_past_places n ts i c.1 l)
 
   pub names_past_terms : (n : ℕ) (ts : BoxTerms) (i : ℕ) → ClosedTerms n ts → n ≤ i → names_terms ts i ≡ false
   names_past_terms n Done i c l = refl
-  names_past_terms n (Next m t ts) i c l = neither (names t (m + i)) (names_terms ts i) (names_past (m + n) t (m + i) c.0 (omega arith)) (names_past_terms n ts i c.1 l)
+  names_past_terms n (Next m t ts) i c l = or_from (names t (m + i)) (names_terms ts i) (names_past (m + n) t (m + i) c.0 (omega arith)) (names_past_terms n ts i c.1 l)
 
 -- how many variables an environment has
 abbrev pub span : ClosureEnv → ℕ
@@ -52,20 +49,9 @@ span Empty = 0
 span (Bind v e) = 1 + span e
 span (BindFix rargs bodies e) = length rargs + span e
 
--- an environment whose set has no variable takes no words
-pub words_none : (e : ClosureEnv) (N : ℕ → Bool) → ((i : ℕ) → N i ≡ false) → words e N ≡ 0
-words_none Empty N h = refl
-words_none (Bind v e) N h = let a : one_if (N zero) ≡ 0 = ap one_if (h zero) in omega (arith, a, words_none e (λ i. N (suc i)) (λ i. h (suc i)))
-words_none (BindFix rargs bodies e) N h =
-    words_none e (λ i. N (length rargs + i) || (any_below (length rargs) N && names_terms bodies i))
-    (λ i. neither (N (length rargs + i)) (any_below (length rargs) N && names_terms bodies i) (h (length rargs + i)) (none_below (length rargs) (names_terms bodies i)))
-  where
-    none : (n : ℕ) → any_below n N ≡ false
-    none zero = refl
-    none (suc n) = neither (N n) (any_below n N) (h n) (none n)
-
-    none_below : (n : ℕ) (x : Bool) → (any_below n N && x) ≡ false
-    none_below n x = ap (λ y. y && x) (none n)
+pub span_bind : (vs : ClosureValues) (e : ClosureEnv) → span (bind_all vs e) ≡ size vs + span e
+span_bind NoValue e = omega arith
+span_bind (Then v vs) e = omega (arith, span_bind vs e)
 
 -- counts
 
@@ -99,9 +85,6 @@ no_more_after h = record {
 block_same : (n m : ℕ) → n ≡ m → AreNoMore (block n) (block m)
 block_same n m e = subst (λ x. AreNoMore (block n) (block x)) e (no_more_self (block n))
 
-one_item : {A : Type 0} {x y : A} → Some x ≡ Some y → x ≡ y
-one_item e = grind arith
-
 module _ (k : ℕ) (b : BoxTerm) (closed : Closed 0 b) (none : uses k b ≡ 0) where
   -- the variables that a term names stay
 
@@ -127,7 +110,7 @@ module _ (k : ℕ) (b : BoxTerm) (closed : Closed 0 b) (none : uses k b ≡ 0) w
 
   pub put_at : (ts : BoxTerms) (i n : ℕ) (t : BoxTerm) → term_at ts i ≡ Some (n, t) → term_at (put_in_terms k b ts) i ≡ Some (n, put_in k b t)
   put_at Done i n t e = absurd (cc)
-  put_at (Next m u ts) zero n t e = ap (λ p. Some (p.0, put_in k b p.1)) (one_item e)
+  put_at (Next m u ts) zero n t e = ap (λ p. Some (p.0, put_in k b p.1)) (same_Some _ _ e)
   put_at (Next m u ts) (suc i) n t e = put_at ts i n t e
 
   -- values and environments that differ by the step; past an empty environment anything may stand
@@ -153,8 +136,8 @@ module _ (k : ℕ) (b : BoxTerm) (closed : Closed 0 b) (none : uses k b ≡ 0) w
   words_like (like_bind_fix {rargs} {bodies} {e} c h) N M same past =
       words_like h (λ i. N (length rargs + i) || (any_below (length rargs) N && names_terms (put_in_terms k b bodies) i)) (λ i. M (length rargs + i) || (any_below (length rargs) M && names_terms bodies i))
       (λ i j. same (length rargs + i) j || (below (length rargs) j && names_put_terms bodies i j))
-      (λ i l. neither (N (length rargs + i)) (any_below (length rargs) N && names_terms (put_in_terms k b bodies) i) (past (length rargs + i) (omega arith))
-      (neither_and (any_below (length rargs) N) (names_terms (put_in_terms k b bodies) i) (names_put_terms bodies i ∙ names_past_terms (span e) bodies i c l)))
+      (λ i l. or_from (N (length rargs + i)) (any_below (length rargs) N && names_terms (put_in_terms k b bodies) i) (past (length rargs + i) (omega arith))
+      (and_right (any_below (length rargs) N) (names_terms (put_in_terms k b bodies) i) (names_put_terms bodies i ∙ names_past_terms (span e) bodies i c l)))
     where
       below : (n : ℕ) → any_below n N ≡ any_below n M
       below zero = refl
@@ -194,22 +177,9 @@ module _ (k : ℕ) (b : BoxTerm) (closed : Closed 0 b) (none : uses k b ≡ 0) w
   bind_like like_none h = h
   bind_like (like_more l ls) h = like_bind l (bind_like ls h)
 
-  span_bind : (vs : ClosureValues) (e : ClosureEnv) → span (bind_all vs e) ≡ size vs + span e
-  span_bind NoValue e = omega arith
-  span_bind (Then v vs) e = omega (arith, span_bind vs e)
-
   boxes_like : (n : ℕ) → LikeAll (box_values n) (box_values n)
   boxes_like zero = like_none
   boxes_like (suc n) = like_more like_box (boxes_like n)
-
-  size_boxes : (n : ℕ) → size (box_values n) ≡ n
-  size_boxes zero = refl
-  size_boxes (suc n) = ap suc (size_boxes n)
-
-  closed_term_at : (m : ℕ) (ts : BoxTerms) (i n : ℕ) (t : BoxTerm) → ClosedTerms m ts → term_at ts i ≡ Some (n, t) → Closed (n + m) t
-  closed_term_at m Done i n t c e = absurd (cc)
-  closed_term_at m (Next n' u ts) zero n t c e = subst (λ (p : ℕ × BoxTerm). Closed (p.0 + m) p.1) (one_item e) c.0
-  closed_term_at m (Next n' u ts) (suc i) n t c e = closed_term_at m ts i n t c.1 e
 
   -- what a like value is
 
@@ -359,7 +329,7 @@ module _ (k : ℕ) (b : BoxTerm) (closed : Closed 0 b) (none : uses k b ≡ 0) w
           }
       follows {e = e} {e' = e'} (run_only {k = n} {s = s} {t = t} kept p r q) h c =
           let x = follows r h (under_none (span e) s c.0) in
-          let y = follows q (bind_like (boxes_like n) h) (closed_more t c.1.0.0 (omega (arith, span_bind (box_values n) e, size_boxes n))) in
+          let y = follows q (bind_like (boxes_like n) h) (closed_more t c.1.0.0 (omega (arith, span_bind (box_values n) e, box_values_size n))) in
           record {
             w = y.w;
             counts = entered_match ⊕ x.counts ⊕ y.counts;
@@ -397,14 +367,6 @@ module _ (k : ℕ) (b : BoxTerm) (closed : Closed 0 b) (none : uses k b ≡ 0) w
     held_like hold_none = like_none
     held_like (hold_last hs h) = like_more (data_like h) (held_like hs)
 
-    pub held_size : {vs : ClosureValues} {args : List Data} → ValuesHold vs args → size vs ≡ length args
-    held_size hold_none = refl
-    held_size (hold_last {d = d} {ds = ds} hs h) = omega (arith, held_size hs, one_more ds d)
-      where
-        one_more : (ds : List Data) (d : Data) → length (ds ++ d ∷ []) ≡ suc (length ds)
-        one_more [] d = refl
-        one_more (e ∷ ds) d = ap suc (one_more ds d)
-
     spine_put : (n : ℕ) (f : BoxTerm) → put_in k b (box_apply f (innermost n)) ≡ box_apply (put_in k b f) (innermost n)
     spine_put zero f = refl
     spine_put (suc n) f = spine_put n (BApp f (Rel n))
@@ -417,6 +379,6 @@ module _ (k : ℕ) (b : BoxTerm) (closed : Closed 0 b) (none : uses k b ≡ 0) w
         ClosureRun P (bind_all vs Empty) (box_apply main (innermost (length args))) v c → ValueReads v d → RunsWithin Q (bind_all vs Empty) (box_apply (put_in k b main) (innermost (length args))) d c
     keeps_runs main closed_main vs args held v d c run reads =
         let n = length args in
-        let whole : Closed (span (bind_all vs Empty)) (box_apply main (innermost n)) = closed_more (box_apply main (innermost n)) (spine_closed n n main (omega arith) (closed_more main closed_main (omega arith))) (omega (arith, span_bind vs Empty, held_size held)) in
+        let whole : Closed (span (bind_all vs Empty)) (box_apply main (innermost n)) = closed_more (box_apply main (innermost n)) (spine_closed n n main (omega arith) (closed_more main closed_main (omega arith))) (omega (arith, span_bind vs Empty, held_count held)) in
         let x = follows run (bind_like (held_like held) (like_empty {e' = Empty})) whole in
         record { v = x.w; counts = x.counts; run = subst (λ (t : BoxTerm). ClosureRun Q (bind_all vs Empty) t x.w x.counts) (spine_put n main) x.run; reads = reads_like reads x.like; no_more = x.no_more }

@@ -238,14 +238,15 @@ module _ (k : ℕ) (b : BoxTerm) (f : BoxTerm → BoxTerm) where
       let body = (done_ordered f Fs rest (changed f d ∷ cs) o).0 in
       standing_ordered Fs rest (changed f d ∷ cs) (changed g d ∷ ds) (keeps_more d cs ds keeps) (more_body Fs (changed g d) ds b h) o (put_body k b Fs cs ds keeps h (f d.body) body, p)
 
-  -- the names are those that stood there
-  abbrev Fewer : List BoxConstant → List BoxConstant → Type 0
-  Fewer cs ds = (x : ℕ) → Fresh x cs → Fresh x ds
+-- a number that no constant of the first list has is none of the second's
+abbrev Fewer : List BoxConstant → List BoxConstant → Type 0
+Fewer cs ds = (x : ℕ) → Fresh x cs → Fresh x ds
 
-  pub standing_apart : (rest cs ds : List BoxConstant) → Fewer cs ds → Apart (standing f rest cs) → Apart ds → Apart (standing g rest ds)
-  standing_apart [] cs ds fewer h p = p
-  standing_apart (d ∷ rest) cs ds fewer h p =
-      standing_apart rest (changed f d ∷ cs) (changed g d ∷ ds) (λ x q. (q.0, fewer x q.1)) h (fewer d.name.0 (done_apart f rest (changed f d ∷ cs) h).0, p)
+-- the names that stand there are apart, whatever the bodies become
+pub standing_apart : (f g : BoxTerm → BoxTerm) (rest cs ds : List BoxConstant) → Fewer cs ds → Apart (standing f rest cs) → Apart ds → Apart (standing g rest ds)
+standing_apart f g [] cs ds fewer h p = p
+standing_apart f g (d ∷ rest) cs ds fewer h p =
+    standing_apart f g rest (changed f d ∷ cs) (changed g d ∷ ds) (λ x q. (q.0, fewer x q.1)) h (fewer d.name.0 (done_apart f rest (changed f d ∷ cs) h).0, p)
 
 module _ (Fs : List BoxFamily) (done : List BoxConstant) (f : BoxTerm → BoxTerm) (d : BoxConstant) (rest : List BoxConstant) (main : BoxTerm) (ok : IsBoxProgram (stands Fs done f (d ∷ rest) main)) where
   abbrev k : ℕ
@@ -290,7 +291,7 @@ module _ (Fs : List BoxFamily) (done : List BoxConstant) (f : BoxTerm → BoxTer
   pub step_form : IsBoxProgram (stands Fs done (with_body f d) rest main)
   step_form = record {
     constants = standing_ordered k b f Fs rest (changed f d ∷ done) done keeps body_form ok.constants ordered.1;
-    distinct_constants = apart_pairs (standing (with_body f d) rest done) (standing_apart k b f rest (changed f d ∷ done) done (λ x h. h.1) apart (done_apart f rest (changed f d ∷ done) apart).1);
+    distinct_constants = apart_pairs (standing (with_body f d) rest done) (standing_apart f (with_body f d) rest (changed f d ∷ done) done (λ x h. h.1) apart (done_apart f rest (changed f d ∷ done) apart).1);
     distinct_families = ok.distinct_families;
     counts = ok.counts;
     main = put_body k b Fs (standing f rest (changed f d ∷ done)) (standing (with_body f d) rest done) (standing_keeps k b f rest (changed f d ∷ done) done keeps) (standing_body k b f Fs rest done b body_form) (f main) ok.main;

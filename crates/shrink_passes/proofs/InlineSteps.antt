@@ -1,8 +1,8 @@
 -- The laws of inlining.
-use Rattle.std.proofs.Common.{◌≡◌, ℕ, zero, suc, ◌+◌, ◌*◌, ◌≤◌, Bool, true, false, ◌&&◌, List, [], ◌∷◌, refl, sym, ap, ◌∙◌, subst, arith, ◌⊎◌, inl, inr, ⊎_elim}
+use Rattle.std.proofs.Common.{◌≡◌, ℕ, zero, suc, ◌+◌, ◌*◌, ◌≤◌, Bool, true, false, List, [], ◌∷◌, refl, sym, ap, ◌∙◌, subst, arith, ◌⊎◌, inl, inr, ⊎_elim}
 use Rattle.std.specs.Prelude.{nat_eq, nat_le, if◌then◌else◌, reverse}
 use Rattle.trees.specs.Tree.{Rel, Done, Next}
-use Rattle.std.proofs.lemmas.Bool.{eqb-true, eq-eqb}
+use Rattle.std.proofs.lemmas.Bool.{eqb-true, eq-eqb, and_parts}
 use Rattle.trees.specs.Closed.{Closed}
 use Rattle.trees.specs.Measures.{nodes}
 use Rattle.pc_terms.specs.declared.leaf.Name.{Name}
@@ -226,10 +226,6 @@ more_steps h g = record {
   no_deeper = omega (arith, h.no_deeper, g.no_deeper);
 }
 
-both_are : (x y : Bool) → (x && y) ≡ true → (x ≡ true) × (y ≡ true)
-both_are true y e = (refl, e)
-both_are false y e = absurd (cc)
-
 choose : {P A B : BoxProgram} (z : Bool) → (z ≡ true → Shrinks P A) → (z ≡ false → Shrinks P B) → Shrinks P (if z then A else B)
 choose true f g = f refl
 choose false f g = g refl
@@ -241,7 +237,7 @@ module _ (Fs : List BoxFamily) where
       (λ e.
       let now = stands Fs done f (d ∷ rest) main in
       let next = stands Fs done (with_body f d) rest main in
-      let both = both_are (nat_eq (uses_program d.name.0 now) 1) (nat_le (deepest next) (deepest now)) e in
+      let both = and_parts (nat_eq (uses_program d.name.0 now) 1) (nat_le (deepest next) (deepest now)) e in
       more_steps
       (record {
         form = step_form Fs done f d rest main ok;

@@ -1,5 +1,5 @@
 -- What an evaluation with environments of box and of a lambda is, and small facts on values and terms.
-use Rattle.std.proofs.Common.{◌≡◌, ℕ, zero, suc, ◌+◌, ◌≤◌, Bool, true, false, ◌||◌, List, [], ◌∷◌, ◌++◌, Some, refl, sym, ap, ◌∙◌, arith}
+use Rattle.std.proofs.Common.{◌≡◌, ℕ, zero, suc, ◌+◌, ◌≤◌, Bool, true, false, ◌||◌, List, [], ◌∷◌, ◌++◌, refl, sym, ap, ◌∙◌, arith}
 use mathlib.Core.Path.{fun_ext}
 use Rattle.trees.specs.Tree.{Rel}
 use Rattle.trees.specs.Parallel.{over, overs}
@@ -20,9 +20,6 @@ closure_body v = Box
 
 pub block_less : (n m : ℕ) → n ≤ m → AreNoMore (block n) (block m)
 block_less n m l = record { contractions = omega arith; matches = refl; blocks = omega arith; greatest = omega arith }
-
-pub one_item : {A : Type 0} {x y : A} → Some x ≡ Some y → x ≡ y
-one_item e = grind arith
 
 -- box gives box at no cost
 pub record RunsBox (v : ClosureValue) (c : Counts) : Type 0 where

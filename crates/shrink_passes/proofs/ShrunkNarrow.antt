@@ -1,29 +1,30 @@
 -- The passes that shrink programs make no lambda and no fixpoint capture more words.
-use Rattle.std.proofs.Common.{◌≡◌, ℕ, zero, suc, ◌+◌, ◌<◌, ◌≤◌, Bool, true, false, ◌&&◌, ◌||◌, List, [], ◌∷◌, length, reverse, refl, sym, ap, ◌∙◌, subst, arith, ◌⊎◌, inl, inr, ⊎_elim}
+use Rattle.std.proofs.Common.{◌≡◌, ℕ, zero, suc, ◌+◌, ◌≤◌, Bool, true, false, ◌&&◌, ◌||◌, List, [], ◌∷◌, length, reverse, refl, sym, ap, ◌∙◌, subst, arith, ⊎_elim}
 use Rattle.std.specs.Prelude.{nat_eq, if◌then◌else◌}
-use Rattle.std.proofs.lemmas.Bool.{cases_lt}
+use Rattle.std.proofs.lemmas.Bool.{or_left, or_from, and_right}
 use Rattle.trees.specs.Tree.{Rel, Done, Next}
 use Rattle.trees.specs.Parallel.{rename, up, ups, over, overs, put, substitute, substitute_terms}
 use Rattle.trees.specs.Closed.{Closed, ClosedTerms}
 use Rattle.trees.proofs.Bounds.{closed_at}
 use Rattle.trees.proofs.Put.{ups_past, ups_below, substitute_same}
 use Rattle.box_terms.specs.BoxSyntax.{BoxTerm, BoxTerms, Box, BLambda, BLetIn, BApp, BConst, BConstruct, BCase, BFix}
-use Rattle.lambda_box.specs.BoxProgram.{BoxConstant, BoxFamily, BoxProgram, Has, here, there}
+use Rattle.lambda_box.specs.BoxProgram.{BoxConstant, BoxFamily, BoxProgram, Has, here}
 use Rattle.lambda_box.specs.BoxForm.{IsFixBody, boxed, last, more, AreFixBodies, HasBoxForm, HasBoxFormTerms, IsBoxProgram}
 use Rattle.lambda_box.proofs.Naming.{ordered_body}
-use Rattle.lambda_box.specs.ClosureEvaluation.{names, names_terms, ClosureValue, VBox, ClosureEnv, Empty, Bind, BindFix, box_values, bind_all, one_if, any_below, words}
+use Rattle.lambda_box.specs.ClosureEvaluation.{names, names_terms, ClosureValue, ClosureEnv, Empty, Bind, BindFix, box_values, bind_all, one_if, any_below, words}
 use Rattle.box_passes.proofs.Narrow.{Narrow, NarrowBranches, NarrowDefs}
+use Rattle.box_passes.proofs.Widths.{words_none}
 use Rattle.shrink_passes.specs.Uses.{uses}
 use Rattle.shrink_passes.specs.DropParams.{is_spine, cut, cut_terms, leading, without_lambda, with_constant, is_dead, without_params, drop_from, drop_program}
 use Rattle.shrink_passes.specs.Inline.{put_in, put_in_terms, changed, stands, with_body, is_put_in, inline_from, inline_program}
-use Rattle.shrink_passes.proofs.Following.{neither, neither_and, names_past, names_past_terms, names_put, names_put_terms, words_none}
+use Rattle.shrink_passes.proofs.Following.{names_past, names_past_terms, names_put, names_put_terms}
 use Rattle.shrink_passes.proofs.Forming.{put_closed, put_form, body_unused, step_form as put_step_form}
 use Rattle.shrink_passes.proofs.Deciding.{start_program}
 use Rattle.shrink_passes.proofs.InlineSteps.{to_rest, each_body as put_each_body, inline_is_right}
 use Rattle.shrink_passes.proofs.DropSteps.{step, each_body as drop_each_body}
 use Rattle.shrink_passes.proofs.Cutting.{cut_closed, cut_form}
 use Rattle.shrink_passes.proofs.ThinForms.{without_closed, without_form}
-use Rattle.shrink_passes.proofs.Thinning.{IsThin, Thins, thins_rel, thins_over, thins_overs, thins_first, named_before, named_before_terms, named_cut, named_cut_terms, either_true, left_true, right_true}
+use Rattle.shrink_passes.proofs.Thinning.{IsThin, Thins, thins_rel, thins_over, thins_overs, thins_first, named_before, named_before_terms, named_cut, named_cut_terms, either_map}
 
 -- e' has the variables of e, in their order, but for some; variable i of e' is variable r i of e
 data Fewer : (ℕ → ℕ) → ClosureEnv → ClosureEnv → Type 0 where
@@ -45,13 +46,10 @@ both_true : (x y x' y' : Bool) → (x ≡ true → x' ≡ true) → (y ≡ true 
 both_true true y x' y' f g e = λ i. f refl i && g e i
 both_true false y x' y' f g e = absurd (cc)
 
-either_less : (x y x' y' : Bool) → (x ≡ true → x' ≡ true) → (y ≡ true → y' ≡ true) → (x || y) ≡ true → (x' || y') ≡ true
-either_less x y x' y' f g e = ⊎_elim (λ a. left_true x' y' (f a)) (λ b. right_true x' y' (g b)) (either_true x y e)
-
 any_less : (n m : ℕ) (r : ℕ → ℕ) (M N : ℕ → Bool) → n ≤ m → ((i : ℕ) → M i ≡ true → N (ups m r i) ≡ true) → any_below n M ≡ true → any_below n N ≡ true
 any_less zero m r M N l h e = absurd (cc)
 any_less (suc n) m r M N l h e =
-    either_less (M n) (any_below n M) (N n) (any_below n N) (λ a. let q : n ≡ ups m r n = sym (ups_below m r n (omega arith)) in ap N q ∙ h n a) (any_less n m r M N (omega arith) h) e
+    either_map (M n) (any_below n M) (N n) (any_below n N) (λ a. let q : n ≡ ups m r n = sym (ups_below m r n (omega arith)) in ap N q ∙ h n a) (any_less n m r M N (omega arith) h) e
 
 words_fewer : {r : ℕ → ℕ} {e' e : ClosureEnv} → Fewer r e' e → (M N : ℕ → Bool) → ((i : ℕ) → M i ≡ true → N (r i) ≡ true) → words e' M ≤ words e N
 words_fewer fewer_none M N h = omega arith
@@ -60,7 +58,7 @@ words_fewer (fewer_bind f) M N h = let a = words_fewer f (λ i. M (suc i)) (λ i
 words_fewer (fewer_fix {r = r} {rargs = rargs} {cs = cs} {bs = bs} f g) M N h =
     let n = length rargs in
     words_fewer f (λ i. M (n + i) || (any_below n M && names_terms cs i)) (λ i. N (n + i) || (any_below n N && names_terms bs i))
-    (λ i. either_less (M (n + i)) (any_below n M && names_terms cs i) (N (n + r i)) (any_below n N && names_terms bs (r i)) (λ a. ap N (sym (ups_past n r i)) ∙ h (n + i) a)
+    (λ i. either_map (M (n + i)) (any_below n M && names_terms cs i) (N (n + r i)) (any_below n N && names_terms bs (r i)) (λ a. ap N (sym (ups_past n r i)) ∙ h (n + i) a)
     (both_true (any_below n M) (names_terms cs i) (any_below n N) (names_terms bs (r i)) (any_less n n r M N (omega arith) h) (g i)))
 
 fewer_boxes : (n : ℕ) {r : ℕ → ℕ} {e' e : ClosureEnv} → Fewer r e' e → Fewer (ups n r) (bind_all (box_values n) e') (bind_all (box_values n) e)
@@ -186,8 +184,8 @@ module _ (Fs : List BoxFamily) (C : ℕ) where
   -- a leading lambda less
 
   without_named : (p : ℕ) (t : BoxTerm) (i : ℕ) → names (without_lambda p t) i ≡ true → names t i ≡ true
-  without_named zero (BLambda b) i n = left_true (names b (1 + i)) false (let q : suc i ≡ 1 + i = omega arith in ap (names b) (sym q) ∙ named_before (put Box) (thins_first thins_rel) b (suc i) i refl n)
-  without_named (suc p) (BLambda b) i n = either_less (names (without_lambda p b) (1 + i)) false (names b (1 + i)) false (without_named p b (1 + i)) (λ e. e) n
+  without_named zero (BLambda b) i n = or_left (names b (1 + i)) false (let q : suc i ≡ 1 + i = omega arith in ap (names b) (sym q) ∙ named_before (put Box) (thins_first thins_rel) b (suc i) i refl n)
+  without_named (suc p) (BLambda b) i n = either_map (names (without_lambda p b) (1 + i)) false (names b (1 + i)) false (without_named p b (1 + i)) (λ e. e) n
   without_named zero t i n = n
   without_named (suc p) t i n = n
 
@@ -212,7 +210,7 @@ module _ (Fs : List BoxFamily) (C : ℕ) where
   words_longer (longer_bind w) N h = let a = words_longer w (λ i. N (suc i)) (λ i l. h (suc i) (omega arith)) in omega arith
   words_longer (longer_fix {n = n} {rargs = rargs} {bs = bs} w c) N h =
       words_longer w (λ i. N (length rargs + i) || (any_below (length rargs) N && names_terms bs i))
-      (λ i l. neither (N (length rargs + i)) (any_below (length rargs) N && names_terms bs i) (h (length rargs + i) (omega arith)) (neither_and (any_below (length rargs) N) (names_terms bs i) (names_past_terms n bs i c l)))
+      (λ i l. or_from (N (length rargs + i)) (any_below (length rargs) N && names_terms bs i) (h (length rargs + i) (omega arith)) (and_right (any_below (length rargs) N) (names_terms bs i) (names_past_terms n bs i c l)))
 
   longer_boxes : (m : ℕ) {n : ℕ} {e' e : ClosureEnv} → Longer n e' e → Longer (m + n) (bind_all (box_values m) e') (bind_all (box_values m) e)
   longer_boxes zero {n} {e'} {e} w = let q : n ≡ 0 + n = omega arith in subst (λ k. Longer k e' e) q w

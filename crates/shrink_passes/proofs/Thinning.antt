@@ -1,7 +1,7 @@
 -- Substitutions that put variables for variables, each for one at most, or box; and what a term names after them.
 use Rattle.std.proofs.Common.{◌≡◌, ℕ, zero, suc, ◌+◌, ◌<◌, Bool, true, false, ◌||◌, List, refl, sym, ap, ◌∙◌, subst, arith, ◌⊎◌, inl, inr, ⊎_elim}
 use Rattle.std.specs.Prelude.{if◌then◌else◌}
-use Rattle.std.proofs.lemmas.Bool.{eqb-true, eq-eqb}
+use Rattle.std.proofs.lemmas.Bool.{eqb-true, eq-eqb, or_cases, or_left, or_right}
 use Rattle.trees.specs.Tree.{Slot, Rel, Node, Places, End, Child, Group, Done, Next}
 use Rattle.trees.specs.Parallel.{rename, over, overs, substitute, substitute_children, substitute_terms, first}
 use Rattle.box_terms.specs.BoxSyntax.{BoxLabel, box_slots, BoxTerm, BoxTerms, Box, BLambda, BLetIn, BApp, BConst, BConstruct, BCase, BFix}
@@ -90,18 +90,6 @@ overs_below (suc n) s (suc i) l = ap (rename suc) (overs_below n s i (omega arit
 
 -- a variable that the term names after the substitution stood for one that it named before
 
-pub either_true : (x y : Bool) → (x || y) ≡ true → (x ≡ true) ⊎ (y ≡ true)
-either_true true y e = inl refl
-either_true false y e = inr e
-
-pub left_true : (x y : Bool) → x ≡ true → (x || y) ≡ true
-left_true true y e = refl
-left_true false y e = absurd (cc)
-
-pub right_true : (x y : Bool) → y ≡ true → (x || y) ≡ true
-right_true true y e = refl
-right_true false y e = e
-
 mutual
   pub named_before : (s : ℕ → BoxTerm) → Thins s → (t : BoxTerm) (i j : ℕ) → s i ≡ Rel j → names (substitute s t) j ≡ true → names t i ≡ true
   named_before s h (Rel m) i j e n =
@@ -115,22 +103,22 @@ mutual
   named_before_places : (s : ℕ → BoxTerm) → Thins s → {ss : List Slot} (ts : Places BoxLabel box_slots ss) (i j : ℕ) → s i ≡ Rel j → names_places (substitute_children s ts) j ≡ true → names_places ts i ≡ true
   named_before_places s h End i j e n = absurd (cc)
   named_before_places s h (Child {n = m} t ts) i j e n =
-      ⊎_elim (λ a. left_true (names t (m + i)) (names_places ts i) (named_before (overs m s) (thins_overs m h) t (m + i) (m + j) (overs_past m s i j e) a))
-      (λ b. right_true (names t (m + i)) (names_places ts i) (named_before_places s h ts i j e b)) (either_true (names (substitute (overs m s) t) (m + j)) (names_places (substitute_children s ts) j) n)
+      ⊎_elim (λ a. or_left (names t (m + i)) (names_places ts i) (named_before (overs m s) (thins_overs m h) t (m + i) (m + j) (overs_past m s i j e) a))
+      (λ b. or_right (names t (m + i)) (names_places ts i) (named_before_places s h ts i j e b)) (or_cases (names (substitute (overs m s) t) (m + j)) (names_places (substitute_children s ts) j) n)
   named_before_places s h (Group us ts) i j e n =
-      ⊎_elim (λ a. left_true (names_terms us i) (names_places ts i) (named_before_terms s h us i j e a))
-      (λ b. right_true (names_terms us i) (names_places ts i) (named_before_places s h ts i j e b)) (either_true (names_terms (substitute_terms s us) j) (names_places (substitute_children s ts) j) n)
+      ⊎_elim (λ a. or_left (names_terms us i) (names_places ts i) (named_before_terms s h us i j e a))
+      (λ b. or_right (names_terms us i) (names_places ts i) (named_before_places s h ts i j e b)) (or_cases (names_terms (substitute_terms s us) j) (names_places (substitute_children s ts) j) n)
 
   pub named_before_terms : (s : ℕ → BoxTerm) → Thins s → (ts : BoxTerms) (i j : ℕ) → s i ≡ Rel j → names_terms (substitute_terms s ts) j ≡ true → names_terms ts i ≡ true
   named_before_terms s h Done i j e n = absurd (cc)
   named_before_terms s h (Next m t ts) i j e n =
-      ⊎_elim (λ a. left_true (names t (m + i)) (names_terms ts i) (named_before (overs m s) (thins_overs m h) t (m + i) (m + j) (overs_past m s i j e) a))
-      (λ b. right_true (names t (m + i)) (names_terms ts i) (named_before_terms s h ts i j e b)) (either_true (names (substitute (overs m s) t) (m + j)) (names_terms (substitute_terms s ts) j) n)
+      ⊎_elim (λ a. or_left (names t (m + i)) (names_terms ts i) (named_before (overs m s) (thins_overs m h) t (m + i) (m + j) (overs_past m s i j e) a))
+      (λ b. or_right (names t (m + i)) (names_terms ts i) (named_before_terms s h ts i j e b)) (or_cases (names (substitute (overs m s) t) (m + j)) (names_terms (substitute_terms s ts) j) n)
 
 -- a cut term names no more
 
-either_map : (x y x' y' : Bool) → (x ≡ true → x' ≡ true) → (y ≡ true → y' ≡ true) → (x || y) ≡ true → (x' || y') ≡ true
-either_map x y x' y' f g e = ⊎_elim (λ a. left_true x' y' (f a)) (λ b. right_true x' y' (g b)) (either_true x y e)
+pub either_map : (x y x' y' : Bool) → (x ≡ true → x' ≡ true) → (y ≡ true → y' ≡ true) → (x || y) ≡ true → (x' || y') ≡ true
+either_map x y x' y' f g e = ⊎_elim (λ a. or_left x' y' (f a)) (λ b. or_right x' y' (g b)) (or_cases x y e)
 
 kept : false ≡ true → false ≡ true
 kept e = e
@@ -147,7 +135,7 @@ module _ (k p : ℕ) where
     named_cut (BApp f a) i n = either (is_spine k f p) (named_cut f (0 + i)) (named_cut a (0 + i)) n
       where
         either : (z : Bool) → (names (cut k p f) (0 + i) ≡ true → names f (0 + i) ≡ true) → (names (cut k p a) (0 + i) ≡ true → names a (0 + i) ≡ true) → names (if z then cut k p f else BApp (cut k p f) (cut k p a)) i ≡ true → names (BApp f a) i ≡ true
-        either true x y n = let q : i ≡ 0 + i = omega arith in left_true (names f (0 + i)) (names a (0 + i) || false) (x (subst (λ m. names (cut k p f) m ≡ true) q n))
+        either true x y n = let q : i ≡ 0 + i = omega arith in or_left (names f (0 + i)) (names a (0 + i) || false) (x (subst (λ m. names (cut k p f) m ≡ true) q n))
         either false x y n = either_map (names (cut k p f) (0 + i)) (names (cut k p a) (0 + i) || false) (names f (0 + i)) (names a (0 + i) || false) x (either_map (names (cut k p a) (0 + i)) false (names a (0 + i)) false y kept) n
     named_cut (BConst c) i n = n
     named_cut (BConstruct f c) i n = n

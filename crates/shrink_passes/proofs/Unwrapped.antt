@@ -1,7 +1,7 @@
 -- Leading lambdas dropped one by one, and all at once.
-use Rattle.std.proofs.Common.{◌≡◌, ℕ, zero, suc, ◌+◌, ◌-◌, ◌<◌, ◌≤◌, ◌^◌, max, Bool, true, false, ◌||◌, List, [], ◌∷◌, length, refl, sym, ap, ◌∙◌, subst, arith, ◌⊎◌, inl, inr, ⊎_elim}
+use Rattle.std.proofs.Common.{◌≡◌, ℕ, zero, suc, ◌+◌, ◌-◌, ◌<◌, ◌≤◌, Bool, true, false, List, ◌∷◌, length, refl, sym, ap, ◌∙◌, subst, arith, ⊎_elim}
 use Rattle.std.specs.Prelude.{if◌then◌else◌}
-use Rattle.std.proofs.lemmas.Bool.{cases_lt, eqb-true, eq-eqb}
+use Rattle.std.proofs.lemmas.Bool.{cases_lt, eqb-true, eq-eqb, or_cases, or_left, or_right}
 use mathlib.Core.Path.{fun_ext}
 use Rattle.trees.specs.Tree.{Slot, Rel, Node, Places, End, Child, Group, Done, Next}
 use Rattle.trees.specs.Parallel.{rename, first, over, overs, put, put_all, substitute, substitute_children, substitute_terms}
@@ -15,7 +15,7 @@ use Rattle.box_passes.specs.Saturate.{lambdas}
 use Rattle.shrink_passes.specs.DropParams.{leading, is_unused, without_lambda}
 use Rattle.shrink_passes.specs.DeadPlaces.{is_unnamed}
 use Rattle.shrink_passes.specs.Pruned.{kept, variables, wrapped, unwrapped}
-use Rattle.shrink_passes.proofs.Thinning.{Thins, IsThin, thins_rel, thins_over, thins_overs, thins_first, before_thin, same_variable, box_no_variable, overs_past, either_true, left_true, right_true, named_before}
+use Rattle.shrink_passes.proofs.Thinning.{Thins, IsThin, thins_rel, thins_over, thins_overs, thins_first, before_thin, same_variable, box_no_variable, overs_past, named_before}
 use Rattle.shrink_passes.proofs.ThinForms.{thinned_depth}
 
 -- all at once, with the terms for all variables given before
@@ -241,17 +241,17 @@ mutual
   named_after_places : (s : ℕ → BoxTerm) {ss : List Slot} (ts : Places BoxLabel box_slots ss) (i j : ℕ) → s i ≡ Rel j → names_places ts i ≡ true → names_places (substitute_children s ts) j ≡ true
   named_after_places s End i j e n = absurd (cc)
   named_after_places s (Child {n = m} t ts) i j e n =
-      ⊎_elim (λ a. left_true (names (substitute (overs m s) t) (m + j)) (names_places (substitute_children s ts) j) (named_after (overs m s) t (m + i) (m + j) (overs_past m s i j e) a))
-      (λ b. right_true (names (substitute (overs m s) t) (m + j)) (names_places (substitute_children s ts) j) (named_after_places s ts i j e b)) (either_true (names t (m + i)) (names_places ts i) n)
+      ⊎_elim (λ a. or_left (names (substitute (overs m s) t) (m + j)) (names_places (substitute_children s ts) j) (named_after (overs m s) t (m + i) (m + j) (overs_past m s i j e) a))
+      (λ b. or_right (names (substitute (overs m s) t) (m + j)) (names_places (substitute_children s ts) j) (named_after_places s ts i j e b)) (or_cases (names t (m + i)) (names_places ts i) n)
   named_after_places s (Group us ts) i j e n =
-      ⊎_elim (λ a. left_true (names_terms (substitute_terms s us) j) (names_places (substitute_children s ts) j) (named_after_terms s us i j e a))
-      (λ b. right_true (names_terms (substitute_terms s us) j) (names_places (substitute_children s ts) j) (named_after_places s ts i j e b)) (either_true (names_terms us i) (names_places ts i) n)
+      ⊎_elim (λ a. or_left (names_terms (substitute_terms s us) j) (names_places (substitute_children s ts) j) (named_after_terms s us i j e a))
+      (λ b. or_right (names_terms (substitute_terms s us) j) (names_places (substitute_children s ts) j) (named_after_places s ts i j e b)) (or_cases (names_terms us i) (names_places ts i) n)
 
   named_after_terms : (s : ℕ → BoxTerm) (ts : BoxTerms) (i j : ℕ) → s i ≡ Rel j → names_terms ts i ≡ true → names_terms (substitute_terms s ts) j ≡ true
   named_after_terms s Done i j e n = absurd (cc)
   named_after_terms s (Next m t ts) i j e n =
-      ⊎_elim (λ a. left_true (names (substitute (overs m s) t) (m + j)) (names_terms (substitute_terms s ts) j) (named_after (overs m s) t (m + i) (m + j) (overs_past m s i j e) a))
-      (λ b. right_true (names (substitute (overs m s) t) (m + j)) (names_terms (substitute_terms s ts) j) (named_after_terms s ts i j e b)) (either_true (names t (m + i)) (names_terms ts i) n)
+      ⊎_elim (λ a. or_left (names (substitute (overs m s) t) (m + j)) (names_terms (substitute_terms s ts) j) (named_after (overs m s) t (m + i) (m + j) (overs_past m s i j e) a))
+      (λ b. or_right (names (substitute (overs m s) t) (m + j)) (names_terms (substitute_terms s ts) j) (named_after_terms s ts i j e b)) (or_cases (names t (m + i)) (names_terms ts i) n)
 
 same_truth : (x y : Bool) → (x ≡ true → y ≡ true) → (y ≡ true → x ≡ true) → x ≡ y
 same_truth true y f g = sym (f refl)

@@ -1,5 +1,5 @@
 -- Of the passed program: captured words are at most the binders of the saturated program, and at most the words of the program before the passes.
-use Rattle.std.proofs.Common.{◌≡◌, ◌⊎◌, ℕ, zero, suc, ◌+◌, ◌-◌, ◌≤◌, List, [], ◌∷◌, length, false, refl, subst, inl, inr, arith}
+use Rattle.std.proofs.Common.{◌≡◌, ◌⊎◌, ℕ, suc, ◌+◌, ◌-◌, ◌≤◌, List, [], ◌∷◌, length, false, refl, subst, inl, inr, arith}
 use Rattle.trees.specs.Tree.{Rel, Done, Next}
 use Rattle.box_terms.specs.BoxSyntax.{BoxTerm, BoxTerms, Box, BLambda, BLetIn, BApp, BConst, BConstruct, BCase, BFix}
 use Rattle.lambda_box.specs.BoxProgram.{BoxConstant, BoxFamily, BoxProgram, Has, here, there}
@@ -9,15 +9,14 @@ use Rattle.lambda_box.specs.DataTerms.{greatest_arguments}
 use Rattle.lambda_box.proofs.Naming.{ordered_body}
 use Rattle.box_passes.specs.PropMatch.{prop_match_program}
 use Rattle.box_passes.specs.PassLaws.{saturated_program}
-use Rattle.box_passes.proofs.Narrow.{Narrow, NarrowBranches, NarrowDefs, fits_narrow}
+use Rattle.box_passes.proofs.Narrow.{Narrow, NarrowBranches, NarrowDefs, fits_narrow, plain_boxes}
 use Rattle.box_passes.proofs.Passes.{passes_form}
 use Rattle.shrink_passes.specs.ShrunkProgram.{shrunk_program}
 use Rattle.shrink_passes.proofs.ShrunkNarrow.{AreFine, shrunk_narrow}
 use Rattle.shrink_passes.proofs.ShrunkPrograms.{shrunk_forms, shrunk_shallow}
-use Rattle.shrink_passes.proofs.Following.{words_none}
 use Rattle.box_passes.proofs.PropMatchForm.{prop_match_program_sizes}
 use Rattle.box_passes.proofs.SaturatedWidths.{most_depth, main_fits, constant_fits}
-use Rattle.box_passes.proofs.Widths.{plain, words_plain}
+use Rattle.box_passes.proofs.Widths.{plain, words_plain, words_none}
 use Rattle.anf_convert.specs.ToAnf.{number_in, to_anf}
 use Rattle.anf_convert.specs.ToAnfKeeps.{CanBeConverted}
 use Rattle.anf_convert.proofs.Prepared.{data_kept}
@@ -29,10 +28,6 @@ use Rattle.compile.proofs.Within.{main_shallow, constant_shallow}
 use Rattle.headline.proofs.LateReturns.{all_shallow}
 use Rattle.source_limits.specs.LambdaBinders.{lambda_binders, lambda_binders_terms, constants_binders}
 use Rattle.source_limits.specs.Laws.{SaturatedCapturesAreFew, WordsBoundCaptures}
-
-plain_boxes : (n : ℕ) (e : ClosureEnv) → plain (bind_all (box_values n) e) ≡ n + plain e
-plain_boxes zero e = omega arith
-plain_boxes (suc n) e = omega (arith, plain_boxes n e)
 
 -- bodies of a fixpoint that aren't all box have a lambda
 

@@ -1,5 +1,6 @@
 -- A term after erasure whose boxes are filled with other terms. Substitution keeps it so, and where box isn't looked at, a value goes on as the other does.
 use Rattle.std.proofs.Common.{◌≡◌, ℕ, zero, suc, ◌+◌, List, [], ◌∷◌, ◌++◌, ◌<◌, Some, length, refl, sym, ap, ◌∙◌, subst}
+use Rattle.std.proofs.lemmas.Option.{same_Some}
 use Rattle.trees.specs.Tree.{Slot, Under, Lists, Rel, Node, Places, End, Child, Group, Done, Next, term_at}
 use Rattle.trees.specs.Parallel.{rename, overs, substitute, substitute_children, substitute_terms, first, put, put_all}
 use Rattle.trees.specs.Data.{Data}
@@ -10,7 +11,6 @@ use Rattle.box_terms.specs.BoxSyntax.{BoxLabel, box_slots, BoxTerm, BoxTerms, Bo
 use Rattle.lambda_box.specs.BoxProgram.{BoxProgram, box_apply, box_fixpoints}
 use Rattle.lambda_box.specs.BoxEvaluation.{IsBoxConstructor, is_box_constructor, BoxTakesMore, constructor, fixpoint, BoxUnfolds, unfolds, box_unfolded}
 use Rattle.lambda_box.specs.BoxData.{BoxReads, box_reads, BoxReadsAll, no_box_field, box_field}
-use Rattle.lambda_box.proofs.Spines.{one_item}
 
 mutual
   pub data Fills : BoxTerm → BoxTerm → Type 0 where
@@ -181,7 +181,7 @@ pub record ToItem (ts : BoxTerms) (i n : ℕ) (t : BoxTerm) : Type 0 where
 pub to_item : {ts us : BoxTerms} → FillsTerms ts us → (i n : ℕ) (t : BoxTerm) → term_at ts i ≡ Some (n, t) → ToItem us i n t
 to_item no_more i n t e = absurd (cc)
 to_item (one_more {n = m} {t = a} {u = b} p ps) zero n t e =
-    let same = one_item e in
+    let same = same_Some _ _ e in
     record { item = b; at = ap (λ q. Some (q.0, b)) same; fills = fills_is (ap (λ q. q.1) same) refl p }
 to_item (one_more p ps) (suc i) n t e = let found = to_item ps i n t e in record { item = found.item; at = found.at; fills = found.fills }
 

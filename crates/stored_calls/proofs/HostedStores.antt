@@ -3,6 +3,7 @@ use Rattle.std.proofs.Common.{◌≡◌, ℕ, ◌+◌, ◌-◌, ◌*◌, ◌≤�
 use Rattle.std.specs.Prelude.{◌&&◌, min, nat_le, slice_get}
 use Rattle.std.specs.Option.{option_and_then}
 use Rattle.std.proofs.lemmas.Bool.{leb-true}
+use Rattle.std.proofs.lemmas.Option.{same_Some}
 use Rattle.wasm_core.specs.declared.types.ConstValue.TheVariants.{I32}
 use Rattle.wasm_core.specs.declared.entries.Entry.TheVariants as entry
 use Rattle.wasm_core.specs.Memory.{zeroed}
@@ -10,7 +11,6 @@ use Rattle.wasm_core.specs.Entries.{from_nothing, index_of, or_missing}
 use Rattle.wasm_core.specs.MachineStep.{Store}
 use Rattle.wasm_core.specs.HostStore.{pages_for}
 use Rattle.wasm_core.specs.StoredData.{ArgumentsWithin}
-use Rattle.wasm_core.proofs.Small.{inj}
 use Rattle.known_calls.specs.KnownModule.{worker_type}
 use Rattle.known_calls.specs.KnownCalls.{module_of_call}
 use Rattle.wasm_emit.specs.EmittedModule.{main_index}
@@ -38,7 +38,7 @@ stored_arguments_are_held P k cap pages new arguments h =
     let n : ℕ = 1 + (pages_for h.past - 1) in
     let at : Store = record { pages = n; memory = h.memory; globals = I32 0 ∷ I32 0 ∷ I32 h.past ∷ I32 h.address ∷ []; refused = false; by_choice = false } in
     let is : new ≡ at = h.is in
-    let eight : 8 ≡ h.first = inj h.was in
+    let eight : 8 ≡ h.first = same_Some _ _ h.was in
     let long : length h.memory ≡ 65536 * 1 + 65536 * (pages_for h.past - 1) = h.size ∙ length-append (zeroed 1) (zeroed (pages_for h.past - 1)) ∙ (λ i. zeroed_length 1 i + zeroed_length (pages_for h.past - 1) i) in
     let few : pages_for h.past ≤ min cap pages = leb-true (pages_for h.past) (min cap pages) (both_true (nat_le h.past 4294967295) (nat_le (pages_for h.past) (min cap pages)) h.room) in
     let past = h.ends in

@@ -1,8 +1,8 @@
 -- A word of a memory stands for at most one tree of data, and a store answers at most one.
 use Rattle.std.proofs.Common.{◌≡◌, ℕ, ◌+◌, ◌*◌, ◌<◌, List, [], ◌∷◌, ◌++◌, refl, ap, sym, ◌∙◌, subst, arith}
+use Rattle.std.proofs.lemmas.Option.{same_Some}
 use Rattle.wasm_core.specs.WordData.{DataNodes, StandsFor, odd, block, FieldsStand, no_field, field}
 use Rattle.wasm_core.specs.Laws.{DataIsUnique, AnswerIsUnique}
-use Rattle.wasm_core.proofs.Small.{inj}
 
 headers : (a b c d : ℕ) → c < 65536 → d < 65536 → a * 65536 + c ≡ b * 65536 + d → (a ≡ b) × (c ≡ d)
 headers a b c d hc hd e = (omega arith, omega arith)
@@ -27,4 +27,4 @@ pub data_unique : DataIsUnique
 data_unique memory w d e a b = same_data a b
 
 pub answer_unique : AnswerIsUnique
-answer_unique m store d e a b = same_data a.stands (subst (λ w. StandsFor store.memory w e) (inj (sym b.result ∙ a.result)) b.stands)
+answer_unique m store d e a b = same_data a.stands (subst (λ w. StandsFor store.memory w e) (same_Some _ _ (sym b.result ∙ a.result)) b.stands)

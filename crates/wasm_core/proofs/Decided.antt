@@ -2,7 +2,7 @@
 use Rattle.std.proofs.Common.{◌≡◌, ℕ, zero, suc, List, [], ◌∷◌, ◌++◌, Option, Some, None, false, refl, ap, sym, ◌∙◌, subst, ◌+◌, ◌<◌, ◌≤◌, length, get_or, arith, inl, inr, ⊎_elim}
 use Rattle.std.specs.Prelude.{slice_get, ◌⊎◌, ◌≢◌, IfSome, IsSome}
 use Rattle.std.proofs.lemmas.Bool.{cases_lt}
-use Rattle.std.proofs.lemmas.Option.{slice_get_within, slice_get-get_or}
+use Rattle.std.proofs.lemmas.Option.{slice_get_within, slice_get-get_or, same_Some}
 use Rattle.wasm_core.specs.declared.types.ValType.{ValType}
 use Rattle.wasm_core.specs.declared.types.ValType.TheVariants.{I32, I64}
 use Rattle.wasm_core.specs.declared.types.FuncType.{FuncType}
@@ -18,7 +18,7 @@ use Rattle.wasm_core.specs.ModuleTyping.{TypedBody, TypedFunc, type_of, Part, Fu
 use Rattle.wasm_core.specs.ModuleCondition.{All, IsClosed, IsBody, IsModule}
 use Rattle.wasm_core.specs.FirstFault.{IsFaultAt, FirstFault, outside, inside, TypedBelow}
 use Rattle.wasm_core.specs.Laws.{ModulesAreJudged}
-use Rattle.wasm_core.proofs.Small.{inj, no}
+use Rattle.wasm_core.proofs.Small.{no}
 use Rattle.wasm_core.proofs.Judged.{bodies_are_judged}
 
 abbrev Dec : Type 0 → Type 0
@@ -54,7 +54,7 @@ dec_each P d [] = inl (λ i x e. no e)
 dec_each {A = A} P d (y ∷ ys) = with_first (d y) (dec_each P d ys)
   where
     all : P y → Each P ys → (i : ℕ) (x : A) → slice_get (y ∷ ys) i ≡ Some x → P x
-    all p h zero x e = subst P (inj e) p
+    all p h zero x e = subst P (same_Some _ _ e) p
     all p h (suc i) x e = h i x e
 
     with_first : Dec (P y) → Dec (Each P ys) → Dec ((i : ℕ) (x : A) → slice_get (y ∷ ys) i ≡ Some x → P x)
@@ -84,7 +84,7 @@ dec_distinct (x ∷ es) = with_first (dec_each (λ (f : Export). x.name ≢ f.na
   where
     all : Each (λ (f : Export). x.name ≢ f.name) es → DistinctNames es → DistinctNames (x ∷ es)
     all p h zero zero e f l he hf = absurd (omega (arith, l))
-    all p h zero (suc j) e f l he hf = subst (λ (y : Export). y.name ≢ f.name) (inj he) (p j f hf)
+    all p h zero (suc j) e f l he hf = subst (λ (y : Export). y.name ≢ f.name) (same_Some _ _ he) (p j f hf)
     all p h (suc i) zero e f l he hf = absurd (omega (arith, l))
     all p h (suc i) (suc j) e f l he hf = h i j e f (omega (arith, l)) he hf
 
@@ -227,7 +227,7 @@ parts_from m (suc left) n e h = by (dec_sound (part_at n) m) (λ g. parts_from m
 -- the bodies, one after another
 closed_at : (bs : List Body) → All IsBody bs → (f : ℕ) (b : Body) → slice_get bs f ≡ Some b → IsClosed (false ∷ []) b.code
 closed_at [] a f b e = no e
-closed_at (c ∷ bs) (p, a) zero b e = subst (λ (x : Body). IsClosed (false ∷ []) x.code) (inj e) p.1
+closed_at (c ∷ bs) (p, a) zero b e = subst (λ (x : Body). IsClosed (false ∷ []) x.code) (same_Some _ _ e) p.1
 closed_at (c ∷ bs) (p, a) (suc f) b e = closed_at bs a f b e
 
 func_judged : (m : Parts) → IsModule m → AllSound m → (f : ℕ) → f < length m.funcs → TypedBelow m f → TypedBelow m (f + 1) ⊎ ((g p : ℕ) × FirstFault m g p)
@@ -251,8 +251,8 @@ func_judged m i all f h below =
       where
         here : (g j : ℕ) (c : Body) → g ≡ f → slice_get m.funcs g ≡ Some j → slice_get m.bodies g ≡ Some c → TypedFunc m j c
         here g j c e hg hc =
-            let ej : index ≡ j = inj (sym hf ∙ ap (slice_get m.funcs) (sym e) ∙ hg) in
-            let ec : b ≡ c = inj (sym hb ∙ ap (slice_get m.bodies) (sym e) ∙ hc) in
+            let ej : index ≡ j = same_Some _ _ (sym hf ∙ ap (slice_get m.funcs) (sym e) ∙ hg) in
+            let ec : b ≡ c = same_Some _ _ (sym hb ∙ ap (slice_get m.bodies) (sym e) ∙ hc) in
             subst (λ j. TypedFunc m j c) ej (subst (TypedFunc m index) ec (record { type = type; found = ht; typed = t }))
 
         below_more : TypedBelow m (f + 1)

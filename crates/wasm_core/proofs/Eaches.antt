@@ -2,8 +2,9 @@
 use Rattle.std.proofs.Common.{◌≡◌, ℕ, zero, suc, List, [], ◌∷◌, ◌++◌, take, drop, map, reverse, replicate, get_or, set, Some, sym, subst}
 use Rattle.std.specs.Prelude.{slice_get}
 use Rattle.std.proofs.lemmas.List.{reverse-append}
+use Rattle.std.proofs.lemmas.Option.{same_Some}
 use Rattle.wasm_core.specs.ModuleCondition.{All as Each}
-use Rattle.wasm_core.proofs.Small.{inj, no}
+use Rattle.wasm_core.proofs.Small.{no}
 
 module _ {X : Type 0} (P : X → Type 0) where
   pub each_append : (xs ys : List X) → Each P xs → Each P ys → Each P (xs ++ ys)
@@ -26,7 +27,7 @@ module _ {X : Type 0} (P : X → Type 0) where
 
   pub each_get : (xs : List X) (i : ℕ) (x : X) → Each P xs → slice_get xs i ≡ Some x → P x
   each_get [] i x h e = no e
-  each_get (y ∷ xs) zero x (p, h) e = subst P (inj e) p
+  each_get (y ∷ xs) zero x (p, h) e = subst P (same_Some _ _ e) p
   each_get (y ∷ xs) (suc i) x (p, h) e = each_get xs i x h e
 
   pub each_set : (xs : List X) (i : ℕ) (x : X) → Each P xs → P x → Each P (set xs i x)

@@ -2,7 +2,7 @@
 use Rattle.std.proofs.Common.{◌≡◌, ℕ, Some, Bool, true, false, refl, ap, sym, ◌∙◌, subst}
 use Rattle.std.specs.Prelude.{slice_get}
 use Rattle.std.specs.Option.{option_and_then, option_map}
-use Rattle.std.proofs.lemmas.Option.{slice_get-map}
+use Rattle.std.proofs.lemmas.Option.{slice_get-map, same_Some}
 use Rattle.wasm_core.specs.declared.types.ValType.{ValType}
 use Rattle.wasm_core.specs.declared.types.ValType.TheVariants as type
 use Rattle.wasm_core.specs.declared.types.GlobalDef.{GlobalDef}
@@ -19,12 +19,12 @@ use Rattle.wasm_core.specs.Runs.{store_of}
 use Rattle.wasm_core.specs.Safe.{HasType, HaveTypes, GoodState, global_types}
 use Rattle.wasm_core.specs.Answer.{i32_of, global_of}
 use Rattle.wasm_core.specs.Laws.{EntriesAreThere, HostedEntriesAreThere}
-use Rattle.wasm_core.proofs.Small.{inj, no, some_of}
+use Rattle.wasm_core.proofs.Small.{no, some_of}
 use Rattle.wasm_core.proofs.Values.{have_get}
 use Rattle.wasm_core.proofs.Starting.{start_good, good_in, good_reach}
 
 mutable_is : (b : Bool) (t : ValType) (i x : ℕ) → mutable_i32 b t i ≡ Some x → (t ≡ type.I32) × (i ≡ x)
-mutable_is true type.I32 i x e = (refl, inj e)
+mutable_is true type.I32 i x e = (refl, same_Some _ _ e)
 mutable_is true type.I64 i x e = no e
 mutable_is false t i x e = no e
 

@@ -9,7 +9,7 @@ use Rattle.wasm_core.specs.FirstFault.{CanGoOn, IsFaultAt, outside, inside, Type
 use Rattle.wasm_core.specs.declared.types.FuncType.{FuncType}
 use Rattle.wasm_core.specs.declared.instrs.Body.{Body}
 use Rattle.std.specs.Prelude.{slice_get}
-use Rattle.wasm_core.proofs.Small.{inj}
+use Rattle.std.proofs.lemmas.Option.{same_Some}
 use Rattle.wasm_core.specs.Laws.{FaultPlaceIsUnique, FrontsCanGoOn, FirstFaultIsUnique, FirstFaultIsFault}
 
 pub front_goes_on : FrontsCanGoOn
@@ -34,7 +34,7 @@ untyped m ls rs code p a t =
 
 untyped_func : (m : Parts) (p index : ℕ) (type : FuncType) (b : Body) → slice_get m.types index ≡ Some type → IsFaultAt m (type.params ++ b.locals) (results_of type) b.code p → TypedFunc m index b → ⊥
 untyped_func m p index type b e a t =
-    let same : type ≡ t.type = inj (sym e ∙ t.found) in
+    let same : type ≡ t.type = same_Some _ _ (sym e ∙ t.found) in
     untyped m (type.params ++ b.locals) (results_of type) b.code p a (subst (λ (u : FuncType). TypedBody m (u.params ++ b.locals) (results_of u) b.code) (sym same) t.typed)
 
 same_id : (p q : Part) → id_of p < id_of q → id_of q < id_of p → ⊥
@@ -51,9 +51,9 @@ inside_unique m f g i j p q t u b c sf sg hf hg ht hu hb hc af ag =
   where
     places : f ≡ g → p ≡ q
     places e =
-        let ei : i ≡ j = inj (sym hf ∙ ap (slice_get m.funcs) e ∙ hg) in
-        let et : t ≡ u = inj (sym ht ∙ ap (slice_get m.types) ei ∙ hu) in
-        let eb : b ≡ c = inj (sym hb ∙ ap (slice_get m.bodies) e ∙ hc) in
+        let ei : i ≡ j = same_Some _ _ (sym hf ∙ ap (slice_get m.funcs) e ∙ hg) in
+        let et : t ≡ u = same_Some _ _ (sym ht ∙ ap (slice_get m.types) ei ∙ hu) in
+        let eb : b ≡ c = same_Some _ _ (sym hb ∙ ap (slice_get m.bodies) e ∙ hc) in
         fault_place_unique m (t.params ++ b.locals) (results_of t) b.code p q af
         (subst (λ (x : FuncType). IsFaultAt m (x.params ++ b.locals) (results_of x) b.code q) (sym et) (subst (λ (y : Body). IsFaultAt m (u.params ++ y.locals) (results_of u) y.code q) (sym eb) ag))
 

@@ -1,8 +1,9 @@
 -- The functions of a valid module, by their indices and by the table's entries.
-use Rattle.std.proofs.Common.{◌≡◌, ℕ, zero, suc, ◌<◌, List, [], ◌∷◌, ◌++◌, length, Option, Some, None, Bool, true, false, refl, ap, sym, ◌∙◌, arith, get_or, replicate}
+use Rattle.std.proofs.Common.{◌≡◌, ℕ, zero, suc, ◌<◌, List, [], ◌∷◌, ◌++◌, length, Option, Some, None, true, refl, ap, sym, ◌∙◌, arith, get_or, replicate}
 use Rattle.std.specs.Prelude.{slice_get, slice_set, ◌&&◌}
 use Rattle.std.specs.Option.{option_and_then}
-use Rattle.std.proofs.lemmas.Option.{slice_get_within, slice_get-get_or}
+use Rattle.std.proofs.lemmas.Bool.{and_parts}
+use Rattle.std.proofs.lemmas.Option.{slice_get_within, slice_get-get_or, same_Some}
 use Rattle.wasm_core.specs.declared.types.ValType.{ValType}
 use Rattle.wasm_core.specs.declared.types.ValType.TheVariants as type
 use Rattle.wasm_core.specs.declared.types.FuncType.{FuncType}
@@ -12,7 +13,7 @@ use Rattle.wasm_core.specs.Parts.{Parts}
 use Rattle.wasm_core.specs.Instance.{Func, func_with, func_of, TableEntries, put_funcs, put_segments, table_of, least}
 use Rattle.wasm_core.specs.MachineStep.{same_type, same_types, same_result, same_func_type}
 use Rattle.wasm_core.specs.ModuleTyping.{OperandTypes, TypedBody, IsValid, Elements, Codes, results_of, func_type}
-use Rattle.wasm_core.proofs.Small.{inj, no, some_of}
+use Rattle.wasm_core.proofs.Small.{no, some_of}
 
 -- a function that is there, with its typing
 pub record Found (m : Parts) (f : ℕ) : Type 0 where
@@ -48,7 +49,7 @@ pub found_typed : (m : Parts) → IsValid m → (f : ℕ) (t : FuncType) → fun
 found_typed m valid f t e =
     let (index, hf, ht) = some_of (λ index. slice_get m.types index) (slice_get m.funcs f) t e in
     let (x, s) = found_at m valid f index hf in
-    (x, inj (sym s ∙ ht))
+    (x, same_Some _ _ (sym s ∙ ht))
 
 -- each entry that isn't empty is a function's
 Sound : ℕ → TableEntries → Type 0
@@ -83,10 +84,6 @@ entry_there m valid x f e =
     segments_sound (length m.funcs) m.elements (replicate (least m.table) None) (λ k s h. (valid.outside Elements k s h).funcs) (λ x g h. absurd (empty_sound (least m.table) x g h)) x f e
 
 -- the tests of types find equal ones
-both : (a b : Bool) → (a && b) ≡ true → (a ≡ true) × (b ≡ true)
-both true b e = (refl, e)
-both false b e = cc
-
 type_eq : (s t : ValType) → same_type s t ≡ true → s ≡ t
 type_eq type.I32 type.I32 e = refl
 type_eq type.I32 type.I64 e = cc
@@ -97,7 +94,7 @@ pub types_eq : (ss ts : OperandTypes) → same_types ss ts ≡ true → ss ≡ t
 types_eq [] [] e = refl
 types_eq [] (t ∷ ts) e = cc
 types_eq (s ∷ ss) [] e = cc
-types_eq (s ∷ ss) (t ∷ ts) e = let (a, b) = both (same_type s t) (same_types ss ts) e in let p = type_eq s t a in let q = types_eq ss ts b in cc
+types_eq (s ∷ ss) (t ∷ ts) e = let (a, b) = and_parts (same_type s t) (same_types ss ts) e in let p = type_eq s t a in let q = types_eq ss ts b in cc
 
 -- and equal ones pass them
 type_same : (t : ValType) → same_type t t ≡ true
@@ -116,4 +113,4 @@ result_eq (Some s) (Some t) e = ap Some (type_eq s t e)
 
 pub func_type_eq : (s t : FuncType) → same_func_type s t ≡ true → (s.params ≡ t.params) × (s.result ≡ t.result)
 func_type_eq s t e =
-    let (a, b) = both (same_types s.params t.params) (same_result s.result t.result) e in (types_eq s.params t.params a, result_eq s.result t.result b)
+    let (a, b) = and_parts (same_types s.params t.params) (same_result s.result t.result) e in (types_eq s.params t.params a, result_eq s.result t.result b)

@@ -1,12 +1,13 @@
 -- What the state after a step has, where there is one, by the parts of which the steps are made.
 use Rattle.std.proofs.Common.{◌≡◌, ℕ, List, [], ◌∷◌, Option, Some, None, Bool, true, false, refl, subst}
 use Rattle.std.specs.Prelude.{if◌then◌else◌}
+use Rattle.std.proofs.lemmas.Option.{same_Some}
 use Rattle.wasm_core.specs.declared.types.ConstValue.{ConstValue}
 use Rattle.wasm_core.specs.declared.types.ConstValue.TheVariants.{I32, I64}
 use Rattle.wasm_core.specs.MachineStep.{State, on_some, on_one, on_i32, taking}
 use Rattle.wasm_core.specs.ModuleCondition.{All as Each}
 use Rattle.wasm_core.specs.Words.{IsWord}
-use Rattle.wasm_core.proofs.Small.{inj, no}
+use Rattle.wasm_core.proofs.Small.{no}
 
 abbrev pub Gives : (State → Type 0) → Option State → Type 0
 Gives P None = Unit {0}
@@ -14,7 +15,7 @@ Gives P (Some s) = P s
 
 pub gives_at : (P : State → Type 0) (o : Option State) (s : State) → Gives P o → o ≡ Some s → P s
 gives_at P None s h e = no e
-gives_at P (Some t) s h e = subst P (inj e) h
+gives_at P (Some t) s h e = subst P (same_Some _ _ e) h
 
 module _ (P : State → Type 0) where
   pub g_some : {A : Type 0} (o : Option A) (go : A → Option State) → ((x : A) → o ≡ Some x → Gives P (go x)) → Gives P (on_some o go)

@@ -1,9 +1,10 @@
 -- What bytes spell meets the condition of modules.
-use Rattle.std.proofs.Common.{◌≡◌, inl, inr, ℕ, zero, suc, ◌+◌, ◌-◌, ◌^◌, ◌<◌, ◌≤◌, List, [], ◌∷◌, ◌++◌, length, take, drop, Option, Some, None, Bool, true, false, refl, sym, ap, subst, arith, append_assoc, append-nil, length-append}
+use Rattle.std.proofs.Common.{◌≡◌, inl, inr, ℕ, zero, suc, ◌+◌, ◌-◌, ◌^◌, ◌<◌, ◌≤◌, List, [], ◌∷◌, ◌++◌, length, take, drop, Option, Some, None, Bool, true, false, refl, sym, subst, arith, append_assoc, append-nil, length-append}
 use Rattle.std.specs.Prelude.{if◌then◌else◌, replicate, IsUtf8, nat_eq, not, ◌&&◌}
 use Rattle.std.proofs.lemmas.Bool.{leb-true, eqb-true}
 use Rattle.std.proofs.lemmas.List.{length-replicate}
 use Rattle.std.proofs.Math.Pow.{pow_mono}
+use Rattle.std.proofs.lemmas.Option.{same_Some}
 use Rattle.wasm_core.proofs.Powers.{seven_off, half_below}
 use Rattle.wasm_core.specs.Parts.{Parts}
 use Rattle.wasm_core.specs.ModuleCondition.{All, IsU32, IsU64, IsVector, IsFuncType, IsLimits, AreSizes, IsConstValue, IsGlobal, IsExport, IsSegment, IsAccess, IsInstr, MayCome, opens_after, IsClosed, IsBody, IsModule}
@@ -68,21 +69,13 @@ on_makes (Some x) k w ws m h = (x, refl, h)
 coded_makes : {A : Type 0} (table : ℕ → Option A) (P : A → Type 0) → ((b : ℕ) (x : A) → table b ≡ Some x → P x) → Makes (coded table) P
 coded_makes table P f k w ws m (b, j, i, h) = let (x, e, h2) = on_makes (table b) k (drop j w) ws m h in (x, f b x e, (drop j w, ws, h2))
 
-some_or : {A : Type 0} → A → Option A → A
-some_or d None = d
-some_or d (Some x) = x
-
-pub some_is : {A : Type 0} {x y : A} → Some x ≡ Some y → x ≡ y
-unfolding some_or
-some_is {x = x} e = ap (some_or x) e
-
 -- what is found in a table meets the condition that its rows meet
 pub found_row : {A : Type 0} (P : A → Type 0) (b : ℕ) (rows : List (ℕ × A)) → All (λ r. P r.1) rows → (x : A) → find b rows ≡ Some x → P x
 found_row P b [] a x e = absurd cc
 found_row {A = A} P b (r ∷ rows) (p, a) x e =
     let goal : (c : Bool) → (if c then Some r.1 else find b rows) ≡ Some x → P x =
     λ c. elim c as (λ c. (if c then Some r.1 else find b rows) ≡ Some x → P x) [
-      | true ↦ λ e. let q : r.1 ≡ x = some_is e in subst P q p
+      | true ↦ λ e. let q : r.1 ≡ x = same_Some _ _ e in subst P q p
       | false ↦ λ e. found_row P b rows a x e
     ] in goal _ e
 
@@ -237,7 +230,7 @@ found_by_key P b [] a x e = absurd cc
 found_by_key {A = A} P b (r ∷ rows) (p, a) x e =
     let goal : (c : Bool) → nat_eq b r.0 ≡ c → (if c then Some r.1 else find b rows) ≡ Some x → P b x =
     λ c. elim c as (λ c. nat_eq b r.0 ≡ c → (if c then Some r.1 else find b rows) ≡ Some x → P b x) [
-      | true ↦ λ t e. let q : r.1 ≡ x = some_is e in let k : b ≡ r.0 = eqb-true b r.0 t in subst (λ k. P k x) (sym k) (subst (P r.0) q p)
+      | true ↦ λ t e. let q : r.1 ≡ x = same_Some _ _ e in let k : b ≡ r.0 = eqb-true b r.0 t in subst (λ k. P k x) (sym k) (subst (P r.0) q p)
       | false ↦ λ t e. found_by_key P b rows a x e
     ] in goal _ refl e
 
@@ -305,11 +298,11 @@ opcodes_meet may b r e f = found_by_key (Allowed may) b opcodes (
 operation_meets : (may : Bool) (o : Option I32Op) (r : Row) → operation_row o ≡ Some r → IsRow may r
 unfolding IsRow
 operation_meets may None r e = absurd cc
-operation_meets may (Some op) r e = let q : Plain (instructions.I32 op) ≡ r = some_is e in subst (IsRow may) q (tt, tt)
+operation_meets may (Some op) r e = let q : Plain (instructions.I32 op) ≡ r = same_Some _ _ e in subst (IsRow may) q (tt, tt)
 
 row_meets : (may : Bool) (b : ℕ) (x : Option Row) → find b opcodes ≡ x → (r : Row) → row_or x (find b operations) ≡ Some r → (nat_eq b 5 && not may) ≡ false → IsRow may r
 row_meets may b None h r e f = operation_meets may (find b operations) r e
-row_meets may b (Some x) h r e f = let q : x ≡ r = some_is e in subst (IsRow may) q (opcodes_meet may b x h f)
+row_meets may b (Some x) h r e f = let q : x ≡ r = same_Some _ _ e in subst (IsRow may) q (opcodes_meet may b x h f)
 
 opcode_meets : (may : Bool) (b : ℕ) (r : Row) → opcode may b ≡ Some r → IsRow may r
 opcode_meets may b r e =

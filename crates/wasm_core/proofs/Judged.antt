@@ -3,6 +3,7 @@ use Rattle.std.proofs.Common.{◌≡◌, ℕ, suc, List, [], ◌∷◌, ◌++◌
 use Rattle.std.specs.Prelude.{slice_get, ◌⊎◌}
 use Rattle.std.proofs.lemmas.List.{append-nil}
 use Rattle.std.proofs.Math.Seq.{take-append_seam}
+use Rattle.std.proofs.lemmas.Option.{same_Some}
 use Rattle.wasm_core.specs.declared.types.ValType.TheVariants.{I32}
 use Rattle.wasm_core.specs.declared.instrs.Instr.{Instr}
 use Rattle.wasm_core.specs.declared.instrs.Instr.TheVariants.{Unreachable, Block, Loop, If, Else, End, Br, BrIf, BrTable, Return, Drop, ReturnCall, ReturnCallIndirect}
@@ -13,7 +14,7 @@ use Rattle.wasm_core.specs.ModuleCondition.{IsClosed, opens_after}
 use Rattle.wasm_core.specs.FirstFault.{CanGoOn, IsFaultAt}
 use Rattle.wasm_core.specs.Pass.{Known, Ctl, Place, Check, More, Finished, only, off, put_on, closes, drop_one, dead, labels_of, opened, may_end, fit_labels, check, check_end, check_else, check_tail, outset, one, run}
 use Rattle.wasm_core.specs.Laws.{BodiesAreJudged}
-use Rattle.wasm_core.proofs.Small.{inj, no}
+use Rattle.wasm_core.proofs.Small.{no}
 use Rattle.wasm_core.proofs.Passing.{run_none, run-append, run_typed, viable_run, run_viable}
 
 -- where the pass goes on, so many blocks are open
@@ -82,7 +83,7 @@ module _ (m : Parts) (ls rs : OperandTypes) where
   -- the pass of a closed body doesn't stop inside a block
   goes : (x : Option Check) (os : List Bool) (rest : List Instr) → IsClosed os rest → Sized (length os) x → ((a b : Place) → length os ≡ suc (length a.ctls) → run m ls rs (Some (More a)) rest ≡ Some (More b) → ⊥) → (b : Place) → run m ls rs x rest ≡ Some (More b) → ⊥
   goes None os rest c s ih b e = more_none b (sym (run_none m ls rs rest) ∙ e)
-  goes (Some Finished) os [] c s ih b e = let q : Finished ≡ More b = inj e in cc
+  goes (Some Finished) os [] c s ih b e = let q : Finished ≡ More b = same_Some _ _ e in cc
   goes (Some Finished) os (i ∷ rest) c s ih b e = more_none b (sym (run_none m ls rs rest) ∙ e)
   goes (Some (More a)) os rest c s ih b e = ih a b (sym s) e
 

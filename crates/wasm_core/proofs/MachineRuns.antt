@@ -1,5 +1,6 @@
 -- What the runs of a machine say of a module whose runs answer.
 use Rattle.std.proofs.Common.{◌≡◌, ℕ, Some, ap, sym, ◌∙◌, subst}
+use Rattle.std.proofs.lemmas.Option.{same_Some}
 use Rattle.wasm_core.specs.declared.ended.Ended.{Ended}
 use Rattle.wasm_core.specs.Parts.{Parts}
 use Rattle.wasm_core.specs.MachineStep.{State, At, Over, Reach}
@@ -7,7 +8,6 @@ use Rattle.wasm_core.specs.Runs.{Moves, main_start}
 use Rattle.wasm_core.specs.Answer.{IsAtEnd}
 use Rattle.wasm_core.specs.MachineRun.{MachineShown, IsFreshMachine, HasEndedAs}
 use Rattle.wasm_core.specs.Laws.{EndedAnswers, SpentIsFew, EndedAnswersFrom, SpentIsFewFrom}
-use Rattle.wasm_core.proofs.Small.{inj}
 use Rattle.wasm_core.proofs.Trees.{moves_are_steps}
 
 over_ends : (m : Parts) (e : Ended) (s : State) → HasEndedAs e s → IsAtEnd m s
@@ -18,7 +18,7 @@ over_ends m e (Over f store) h = λ granted t st. st
 ran_from : (m : Parts) (cap : ℕ) (a b : MachineShown) (k : ℕ) (first : State) → IsFreshMachine m cap a → main_start m ≡ Some first → Moves a.program a.cap k a.state b.state → Reach m k first b.state
 ran_from m cap a b k first (s, e, is) h moves =
     let p : a.program ≡ m = ap (λ (x : MachineShown). x.program) is in
-    let q : a.state ≡ first = ap (λ (x : MachineShown). x.state) is ∙ inj (sym e ∙ h) in
+    let q : a.state ≡ first = ap (λ (x : MachineShown). x.state) is ∙ same_Some _ _ (sym e ∙ h) in
     subst (λ x. Reach m k x b.state) q (subst (λ x. Reach x k a.state b.state) p (moves_are_steps a.program a.cap k a.state b.state moves))
 
 pub ended_answers : EndedAnswers

@@ -2,7 +2,8 @@
 use Rattle.std.proofs.Common.{◌≡◌, ℕ, zero, suc, List, [], ◌∷◌, ◌++◌, Option, Some, None, Bool, true, false, refl, ap, sym, ◌∙◌, subst, append_assoc, ◌+◌, ◌<◌, length, take, get_or, eq-eqb}
 use Rattle.std.specs.Prelude.{slice_get, ◌&&◌, nat_eq, is_some}
 use Rattle.std.proofs.lemmas.List.{append-nil, take_more, map-append}
-use Rattle.std.proofs.lemmas.Bool.{eqb-true}
+use Rattle.std.proofs.lemmas.Bool.{eqb-true, and_parts}
+use Rattle.std.proofs.lemmas.Option.{same_Some}
 use Rattle.wasm_core.specs.declared.types.ValType.{ValType}
 use Rattle.wasm_core.specs.declared.types.ValType.TheVariants.{I32, I64}
 use Rattle.wasm_core.specs.declared.instrs.BlockType.{BlockType}
@@ -14,7 +15,7 @@ use Rattle.wasm_core.specs.MachineStep.{on_some, same_types}
 use Rattle.wasm_core.specs.ModuleTyping.{OperandTypes, Operands, OperandType, Of, Bottom, known, Match, match_none, match_same, match_bottom, Effect, Reaches, Typed, TypedBody, done, plain, drop, unreachable, block, loop, one_arm, two_arms, br, br_if, br_table, return, tail_call, effect, tail_effect, left_by}
 use Rattle.wasm_core.specs.FirstFault.{CanGoOn}
 use Rattle.wasm_core.specs.Pass.{Known, Ctl, Place, Check, More, Finished, knowing, same, only, take_off, off, put_on, if_none, closes, drop_one, dead, labels_of, opened, may_end, fits_label, fit_labels, check, check_end, check_else, check_tail, passes, Accepts, outset, one, run}
-use Rattle.wasm_core.proofs.Small.{inj, no}
+use Rattle.wasm_core.proofs.Small.{no}
 use Rattle.wasm_core.proofs.TypedRules.{match_known}
 use Rattle.wasm_core.proofs.Functions.{types_eq, types_same}
 
@@ -53,7 +54,7 @@ only_some true o x h = (refl, h)
 only_some false o x h = no h
 
 off_sound : (ps vals : OperandTypes) (loose : Bool) (k : Known) (ts : Operands) → take_off ps vals loose ≡ Some k → Rep k ts → RepOf loose vals (known ps ++ ts)
-off_sound [] vals loose k ts e r = subst (λ (x : Known). Rep x ts) (sym (inj e)) r
+off_sound [] vals loose k ts e r = subst (λ (x : Known). Rep x ts) (sym (same_Some _ _ e)) r
 off_sound (p ∷ ps) [] false k ts e r = no e
 off_sound (p ∷ ps) [] true k ts e r = (known (p ∷ ps) ++ ts, refl)
 off_sound (p ∷ ps) (v ∷ vals) loose k ts e r =
@@ -106,15 +107,11 @@ pad_match (p ∷ ps) (v ∷ vals) loose k e =
 
 pad_rep : (lt vals : OperandTypes) (loose : Bool) (k : Known) → take_off lt vals loose ≡ Some k → RepOf loose vals (pad (length lt) vals ++ known k.vals)
 unfolding pad
-pad_rep [] vals loose k e = subst (λ (x : Known). RepOf loose vals (known x.vals)) (inj e) (rep_vals loose vals)
+pad_rep [] vals loose k e = subst (λ (x : Known). RepOf loose vals (known x.vals)) (same_Some _ _ e) (rep_vals loose vals)
 pad_rep (p ∷ ps) [] false k e = no e
 pad_rep (p ∷ ps) [] true k e = (_, refl)
 pad_rep (p ∷ ps) (v ∷ vals) loose k e =
     let w = only_some (same p v) (take_off ps vals loose) k e in rep_cons loose v vals _ (pad_rep ps vals loose k w.1)
-
-both : (a b : Bool) → (a && b) ≡ true → (a ≡ true) × (b ≡ true)
-both true b e = (refl, e)
-both false b e = cc
 
 some_there : {A : Type 0} (o : Option A) → is_some o ≡ true → (x : A) × (o ≡ Some x)
 some_there None e = cc
@@ -123,17 +120,17 @@ some_there (Some x) e = (x, refl)
 label_sound : (labels : List OperandTypes) (l n : ℕ) (k : Known) (o : Option OperandTypes) → slice_get labels l ≡ o → fits_label o n k ≡ true → Reaches labels l (pad n k.vals)
 label_sound labels l n k None h e = cc
 label_sound labels l n k (Some lt) h e =
-    let (a, b) = both (nat_eq (length lt) n) (is_some (off lt k)) e in
+    let (a, b) = and_parts (nat_eq (length lt) n) (is_some (off lt k)) e in
     let (j, hj) = some_there (off lt k) b in
     record { wanted = lt; found = h; matched = subst (λ i. Match (pad i k.vals) lt) (eqb-true (length lt) n a) (pad_match lt k.vals k.loose j hj) }
 
 labels_sound : (labels : List OperandTypes) (n : ℕ) (k : Known) (ls : List ℕ) → fit_labels labels n k ls ≡ true → (i l : ℕ) → slice_get ls i ≡ Some l → Reaches labels l (pad n k.vals)
 labels_sound labels n k [] e i l h = no h
 labels_sound labels n k (x ∷ ls) e zero l h =
-    let (a, b) = both (fits_label (slice_get labels x) n k) (fit_labels labels n k ls) e in
-    subst (λ y. Reaches labels y (pad n k.vals)) (inj h) (label_sound labels x n k (slice_get labels x) refl a)
+    let (a, b) = and_parts (fits_label (slice_get labels x) n k) (fit_labels labels n k ls) e in
+    subst (λ y. Reaches labels y (pad n k.vals)) (same_Some _ _ h) (label_sound labels x n k (slice_get labels x) refl a)
 labels_sound labels n k (x ∷ ls) e (suc i) l h =
-    let (a, b) = both (fits_label (slice_get labels x) n k) (fit_labels labels n k ls) e in labels_sound labels n k ls b i l h
+    let (a, b) = and_parts (fits_label (slice_get labels x) n k) (fit_labels labels n k ls) e in labels_sound labels n k ls b i l h
 
 match_length : {os : Operands} {ps : OperandTypes} → Match os ps → length ps ≡ length os
 match_length match_none = refl
@@ -165,7 +162,7 @@ allowed false o go fin h = absurd h
 drop_sound : (vals : OperandTypes) (loose : Bool) (k : Known) (ts : Operands) → drop_one vals loose ≡ Some k → Rep k ts → (t : OperandType) × RepOf loose vals (t ∷ ts)
 drop_sound [] false k ts e r = no e
 drop_sound [] true k ts e r = (Bottom, (Bottom ∷ ts, refl))
-drop_sound (v ∷ vals) loose k ts e r = (Of v, rep_cons loose v vals ts (subst (λ (x : Known). Rep x ts) (sym (inj e)) r))
+drop_sound (v ∷ vals) loose k ts e r = (Of v, rep_cons loose v vals ts (subst (λ (x : Known). Rep x ts) (sym (same_Some _ _ e)) r))
 
 drop_complete : (vals : OperandTypes) (loose : Bool) (t : OperandType) (ts : Operands) → RepOf loose vals (t ∷ ts) → (k : Known) × (drop_one vals loose ≡ Some k) × Rep k ts
 drop_complete [] false t ts r = cc
@@ -540,7 +537,7 @@ module _ (m : Parts) (ls rs : OperandTypes) where
   run_on (Some (More b)) rest ih h = ih b h
 
   run_accepts : (code : List Instr) (a : Place) → run m ls rs (Some (More a)) code ≡ Some Finished → Accepts m ls rs a code
-  run_accepts [] a h = absurd (not_more a (inj h))
+  run_accepts [] a h = absurd (not_more a (same_Some _ _ h))
   run_accepts (i ∷ rest) a h = run_on (check m ls rs i a) rest (run_accepts rest) h
 
   pub run-append : (xs ys : List Instr) (o : Option Check) → run m ls rs o (xs ++ ys) ≡ run m ls rs (run m ls rs o xs) ys

@@ -16,32 +16,30 @@ use Rattle.wasm_core.specs.Laws.{StartsUnlessRefused, CallsAreRuns}
 use Rattle.wasm_core.proofs.Functions.{found_at}
 use Rattle.wasm_core.proofs.Starting.{main_there}
 
-some_none : {A B : Type 0} {x : A} → ◌≡◌ {A = Option A} (Some x) None → B
-some_none h = cc
-
 not_missing : (o : Option Entry) (others : Option NewFault) → unless_missing o others ≡ None → (o ≡ None) × (others ≡ None)
 not_missing None others e = (refl, e)
-not_missing (Some n) others e = some_none e
+not_missing (Some n) others e = cc
 
 there : (n : Entry) (o : Option ℕ) (others : Option Entry) → or_missing n o others ≡ None → (i : ℕ) × (o ≡ Some i)
-there n None others e = some_none e
+there n None others e = cc
 there n (Some i) others e = (i, refl)
 
 held : (b : Bool) (o : Option NewFault) (f : NewFault) → (if b then o else Some f) ≡ None → o ≡ None
 held true o f e = e
-held false o f e = some_none e
+held false o f e = cc
 
 none_past : (o : Option ℕ) → past_fault o ≡ None → o ≡ None
 none_past None e = refl
-none_past (Some n) e = some_none e
+none_past (Some n) e = cc
 
-all_held : (n size : ℕ) (segments : List Segment) → first_past n size segments ≡ None → all_fit size segments ≡ true
+-- where no segment is past the table, all fit
+pub all_held : (n size : ℕ) (segments : List Segment) → first_past n size segments ≡ None → all_fit size segments ≡ true
 all_held n size [] e = refl
 all_held n size (s ∷ segments) e = by (segment_fits size s) refl e (λ h. all_held (suc n) size segments h)
   where
     by : (b : Bool) → segment_fits size s ≡ b → (if b then first_past (suc n) size segments else Some n) ≡ None → (first_past (suc n) size segments ≡ None → all_fit size segments ≡ true) → (segment_fits size s && all_fit size segments) ≡ true
     by true h e go = ap (λ (b : Bool). b && all_fit size segments) h ∙ go e
-    by false h e go = some_none e
+    by false h e go = cc
 
 pub starts_unless_refused : StartsUnlessRefused
 starts_unless_refused m cap valid e =
@@ -59,7 +57,7 @@ starts_unless_refused m cap valid e =
     )
 
 behind : (n : Entry) (o : Option ℕ) (others : Option Entry) → or_missing n o others ≡ None → (others ≡ None) × (or_missing n o None ≡ None)
-behind n None others e = some_none e
+behind n None others e = cc
 behind n (Some i) others e = (e, refl)
 
 calls_first : (m : Parts) (others : Option Entry) → missing_before m others ≡ None → (others ≡ None) × (missing_before m None ≡ None)

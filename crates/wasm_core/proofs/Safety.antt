@@ -3,7 +3,7 @@ use Rattle.std.proofs.Common.{◌≡◌, ℕ, zero, suc, ◌+◌, ◌-◌, ◌^�
 use Rattle.std.specs.Prelude.{slice_get, slice_set, is_some, if◌then◌else◌, nat_le, nat_eq, ◌&&◌}
 use Rattle.std.specs.Option.{option_map, option_to_list, unwrap_or}
 use Rattle.std.proofs.lemmas.List.{length-reverse, length-map, append-nil, reverse-reverse, map-append}
-use Rattle.std.proofs.lemmas.Option.{slice_get-map}
+use Rattle.std.proofs.lemmas.Option.{slice_get-map, same_Some}
 use Rattle.wasm_core.specs.declared.types.ValType.{ValType}
 use Rattle.wasm_core.specs.declared.types.ValType.TheVariants as type
 use Rattle.wasm_core.specs.declared.types.FuncType.{FuncType}
@@ -25,7 +25,7 @@ use Rattle.wasm_core.specs.MachineStep.{BlockLabel, Frame, Store, Conf, State, A
 use Rattle.wasm_core.specs.ModuleTyping.{OperandTypes, Operands, OperandType, Of, known, Match, Effect, Typed, done, plain, unreachable, block, loop, one_arm, two_arms, br, br_if, br_table, return, effect, tail_effect, left_by, results_of, func_type, calling, calling_entry, getting, setting, keeping, accessing, operating, when, Reaches, TypedBody, IsValid}
 use Rattle.wasm_core.specs.ModuleTyping as typing
 use Rattle.wasm_core.specs.Safe.{is_i32, is_i64, HaveTypes, no_values, values, Takes, takes_none, takes_one, Goes, goes, Tail, fin, by_end, by_else, Runs, Chain, Good, GoodState, global_types}
-use Rattle.wasm_core.proofs.Small.{inj, no, some_of, map_of, when_of}
+use Rattle.wasm_core.proofs.Small.{no, some_of, map_of, when_of}
 use Rattle.wasm_core.proofs.Values.{have_append, have_length, have_matched, have_all, have_front, have_rest, have_reverse, known_reverse, have_get, have_set, known_at, zeros_have, popped, popped_any, popped_test}
 use Rattle.wasm_core.proofs.Balance.{skips, skips_else}
 use Rattle.wasm_core.proofs.Functions.{found_in, found_typed, entry_there, func_type_eq}
@@ -83,10 +83,10 @@ module _ (m : Parts) (ls rs : OperandTypes) where
   shift (to_block k below e tk lb g) = to_block k below e tk lb g
 
   target : {ks : List BlockLabel} {labels : List OperandTypes} {us : Operands} {lt : OperandTypes} {tail : List Instr} → Tail m ls rs ks labels us tail → (l : ℕ) → slice_get labels l ≡ Some lt → Target m ls rs ks labels l lt
-  target (fin k) zero e = outside refl refl (sym (inj e))
+  target (fin k) zero e = outside refl refl (sym (same_Some _ _ e))
   target (fin k) (suc l) e = no e
-  target (by_end {k = k} {ks = ks} {labels = labels} below tk lb gs ma gb) zero e = to_block k below refl (subst (Takes k.keeps) (inj e) tk) lb (subst (λ t. Goes m ls rs ks labels (known t ++ below) k.goes_on) (inj e) gs)
-  target (by_else {k = k} {ks = ks} {labels = labels} below tk lb gs ma) zero e = to_block k below refl (subst (Takes k.keeps) (inj e) tk) lb (subst (λ t. Goes m ls rs ks labels (known t ++ below) k.goes_on) (inj e) gs)
+  target (by_end {k = k} {ks = ks} {labels = labels} below tk lb gs ma gb) zero e = to_block k below refl (subst (Takes k.keeps) (same_Some _ _ e) tk) lb (subst (λ t. Goes m ls rs ks labels (known t ++ below) k.goes_on) (same_Some _ _ e) gs)
+  target (by_else {k = k} {ks = ks} {labels = labels} below tk lb gs ma) zero e = to_block k below refl (subst (Takes k.keeps) (same_Some _ _ e) tk) lb (subst (λ t. Goes m ls rs ks labels (known t ++ below) k.goes_on) (same_Some _ _ e) gs)
   target (by_end below tk lb gs ma (goes t tail)) (suc l) e = shift (target tail l e)
   target (by_else below tk lb (goes t tail) ma) (suc l) e = shift (target tail l e)
 
@@ -261,10 +261,10 @@ module _ (m : Parts) (valid : IsValid m) (g : Bool) (store : Store) (gl : HaveTy
 
   sound_plain : {ks : List BlockLabel} {labels : List OperandTypes} {pops pushes : OperandTypes} {code : List Instr} (i : Instr) (ts : Operands) (vals : List ConstValue) → effect m ls i ≡ Some (pops, pushes) → HaveTypes vals (known pops ++ ts) → Goes m ls rs ks labels (known pushes ++
       ts) code → Sound m (step m g (conf ks vals (i ∷ code)))
-  sound_plain Nop ts vals e lv go = let d = given ts [] [] vals (inj e) lv go in on ts vals d.0 d.1
-  sound_plain (I32Const n) ts vals e lv go = let d = given ts [] (type.I32 ∷ []) vals (inj e) lv go in on (Of type.I32 ∷ ts) (I32 n ∷ vals) (values is_i32 d.0) d.1
-  sound_plain (I64Const n) ts vals e lv go = let d = given ts [] (type.I64 ∷ []) vals (inj e) lv go in on (Of type.I64 ∷ ts) (I64 n ∷ vals) (values is_i64 d.0) d.1
-  sound_plain {ks = ks} {labels = labels} {pops = pops} {pushes = pushes} {code = code} (Operation op) ts vals e lv go = by (is_unary op) (inj e)
+  sound_plain Nop ts vals e lv go = let d = given ts [] [] vals (same_Some _ _ e) lv go in on ts vals d.0 d.1
+  sound_plain (I32Const n) ts vals e lv go = let d = given ts [] (type.I32 ∷ []) vals (same_Some _ _ e) lv go in on (Of type.I32 ∷ ts) (I32 n ∷ vals) (values is_i32 d.0) d.1
+  sound_plain (I64Const n) ts vals e lv go = let d = given ts [] (type.I64 ∷ []) vals (same_Some _ _ e) lv go in on (Of type.I64 ∷ ts) (I64 n ∷ vals) (values is_i64 d.0) d.1
+  sound_plain {ks = ks} {labels = labels} {pops = pops} {pushes = pushes} {code = code} (Operation op) ts vals e lv go = by (is_unary op) (same_Some _ _ e)
     where
       by : (b : Bool) → operating b ≡ (pops, pushes) → Sound m (operation b op code (conf ks vals (Operation op ∷ code)))
       by true q =
@@ -477,4 +477,4 @@ pub can_step : (m : Parts) (g : Bool) (c : Conf) → IsValid m → Good m c → 
 can_step m g c valid good = let (s, e, next) = safe m valid g c good in subst (λ (o : Option State). is_some o ≡ true) (sym e) refl
 
 pub stays_good : (m : Parts) (g : Bool) (c : Conf) (s : State) → IsValid m → Good m c → step m g c ≡ Some s → GoodState m s
-stays_good m g c s valid good e = let (t, f, next) = safe m valid g c good in subst (GoodState m) (inj (sym f ∙ e)) next
+stays_good m g c s valid good e = let (t, f, next) = safe m valid g c good in subst (GoodState m) (same_Some _ _ (sym f ∙ e)) next

@@ -2,6 +2,7 @@
 use Rattle.std.proofs.Common.{◌≡◌, ℕ, zero, suc, List, [], ◌∷◌, ◌++◌, length, map, reverse, take, Some, None, Option, Bool, true, false, refl, ap, sym, ◌∙◌, subst}
 use Rattle.std.specs.Prelude.{slice_get, if◌then◌else◌}
 use Rattle.std.specs.Option.{option_and_then}
+use Rattle.std.proofs.lemmas.Option.{same_Some}
 use Rattle.wasm_core.specs.declared.types.ValType.{ValType}
 use Rattle.wasm_core.specs.declared.types.FuncType.{FuncType}
 use Rattle.wasm_core.specs.declared.types.GlobalDef.{GlobalDef}
@@ -18,7 +19,7 @@ use Rattle.wasm_core.specs.Runs.{start, start_at, main_start, first_store, HasSt
 use Rattle.wasm_core.specs.HostStore.{start_in, start_at_in, main_start_in, with_store}
 use Rattle.wasm_core.specs.Safe.{HasType, is_i32, is_i64, HaveTypes, no_values, values, Goes, goes, fin, GoodState, global_types}
 use Rattle.wasm_core.specs.Laws.{NeverStuck, HostedNeverStuck, HostedStarts, StepsAreDetermined}
-use Rattle.wasm_core.proofs.Small.{inj, no, some_of}
+use Rattle.wasm_core.proofs.Small.{no, some_of}
 use Rattle.wasm_core.proofs.Values.{zeros_have}
 use Rattle.wasm_core.proofs.Functions.{found_at}
 use Rattle.wasm_core.proofs.Safety.{result_takes, safe, stays_good}
@@ -32,7 +33,7 @@ pub record FromNothing (m : Parts) (f : ℕ) : Type 0 where
   pub no_result : type.result ≡ None
 
 nothing_to : (ps : List ValType) (r : Option ValType) (i f : ℕ) → from_nothing ps r i ≡ Some f → (ps ≡ []) × (r ≡ None) × (i ≡ f)
-nothing_to [] None i f e = (refl, refl, inj e)
+nothing_to [] None i f e = (refl, refl, same_Some _ _ e)
 nothing_to [] (Some t) i f e = no e
 nothing_to (p ∷ ps) r i f e = no e
 
@@ -68,7 +69,7 @@ started m first e =
     let (fits, e0) = if_some (segments_fit m) (option_and_then (λ f. start_at m f) (index_of Main m)) first e in
     let (f, hf, e1) = some_of (λ f. start_at m f) (index_of Main m) first e0 in
     let (g, hg, e2) = some_of (λ (g : Func). Some (start m g)) (func_of m f) first e1 in
-    record { index = f; func = g; fits = fits; exported = hf; is = hg; starts = sym (inj e2) }
+    record { index = f; func = g; fits = fits; exported = hf; is = hg; starts = sym (same_Some _ _ e2) }
 
 has_own : (v : ConstValue) → HasType v (Of (type_of v))
 has_own (I32 n) = is_i32
@@ -103,15 +104,15 @@ started_in m s first e =
     let (fits, e0) = if_some (segments_fit m) (option_and_then (λ f. start_at_in m s f) (index_of Main m)) first e in
     let (f, hf, e1) = some_of (λ f. start_at_in m s f) (index_of Main m) first e0 in
     let (g, hg, e2) = some_of (λ (g : Func). Some (start_in s g)) (func_of m f) first e1 in
-    record { index = f; func = g; exported = hf; is = hg; starts = sym (inj e2) }
+    record { index = f; func = g; exported = hf; is = hg; starts = sym (same_Some _ _ e2) }
 
 pub good_in : (m : Parts) → IsValid m → (s : Store) (first : State) → HaveTypes s.globals (global_types m) → main_start_in m s ≡ Some first → GoodState m first
 good_in m valid st first typed e =
     let s = started_in m st first e in
     let h = main_there m s.index s.exported in
     let (x, t) = found_at m valid s.index h.index h.is_func in
-    let same : x.func ≡ s.func = inj (sym x.is ∙ s.is) in
-    let none : x.func.type.params ≡ [] = ap (λ (u : FuncType). u.params) (inj (sym t ∙ h.is_type)) ∙ h.no_params in
+    let same : x.func ≡ s.func = same_Some _ _ (sym x.is ∙ s.is) in
+    let none : x.func.type.params ≡ [] = ap (λ (u : FuncType). u.params) (same_Some _ _ (sym t ∙ h.is_type)) ∙ h.no_params in
     subst (GoodState m) (ap (start_in st) same ∙ sym s.starts)
     (record {
       ls = x.func.type.params ++ x.func.body.locals;
@@ -153,5 +154,5 @@ pub hosted_never_stuck : HostedNeverStuck
 hosted_never_stuck m s first k t valid ready e r = good_steps m valid t (good_reach m valid k first t (good_in m valid s first ready.typed e) r)
 
 pub determined : StepsAreDetermined
-determined m granted (At c) t u a b = inj (sym a ∙ b)
+determined m granted (At c) t u a b = same_Some _ _ (sym a ∙ b)
 determined m granted (Over e store) t u a b = absurd a

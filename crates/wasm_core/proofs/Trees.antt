@@ -1,6 +1,7 @@
 -- What a tree of runs says of each run.
 use Rattle.std.proofs.Common.{◌≡◌, ℕ, zero, suc, ◌≤◌, Bool, true, false, refl, sym, ◌∙◌, subst, arith, inl, inr}
 use Rattle.std.specs.Prelude.{◌⊎◌}
+use Rattle.std.proofs.lemmas.Option.{same_Some}
 use Rattle.wasm_core.specs.declared.ended.Ended.{Ended}
 use Rattle.wasm_core.specs.Parts.{Parts}
 use Rattle.wasm_core.specs.ModuleTyping.{IsValid}
@@ -11,7 +12,6 @@ use Rattle.wasm_core.specs.WordData.{DataNodes}
 use Rattle.wasm_core.specs.Answer.{Answers, answers, Exhausted, exhausted, IsAtEnd}
 use Rattle.wasm_core.specs.RunTree.{Within, now, gone, moves, Fate, goes_on, ended, ran_out}
 use Rattle.wasm_core.specs.Laws.{EndsAreOver, HostedEndsAreOver, MovesAreSteps, TreeAnswers}
-use Rattle.wasm_core.proofs.Small.{inj}
 use Rattle.wasm_core.proofs.Starting.{start_good, good_in, good_reach, good_steps}
 
 -- the same steps, the first one first
@@ -40,9 +40,9 @@ module _ (m : Parts) (frames : ℕ) (Q E : State → Type 0) (last : (t : State)
   fate {s = s} (gone e) (suc n) t (mid, (granted, h), w) = absurd (last s (inr e) granted mid h)
   fate {least} (moves s t deep le x y j k) zero u w = (omega arith, subst (Fate m frames Q E least 0) w (goes_on s t deep x y))
   fate (moves s t deep le x y j k) (suc n) u (mid, (true, h), w) =
-      let (a, b) = fate j n u (subst (λ (z : State). Walk m n z u) (inj (sym h ∙ x)) w) in (omega (arith, a), lowered b le)
+      let (a, b) = fate j n u (subst (λ (z : State). Walk m n z u) (same_Some _ _ (sym h ∙ x)) w) in (omega (arith, a), lowered b le)
   fate (moves s t deep le x y j k) (suc n) u (mid, (false, h), w) =
-      let (a, b) = fate k n u (subst (λ (z : State). Walk m n z u) (inj (sym h ∙ y)) w) in (omega (arith, a), lowered b le)
+      let (a, b) = fate k n u (subst (λ (z : State). Walk m n z u) (same_Some _ _ (sym h ∙ y)) w) in (omega (arith, a), lowered b le)
 
 -- after any number of steps within the bound a run is at a state from which it goes on, or at such an end
 pub tree_tells : (m : Parts) (frames least most : ℕ) (Q E : State → Type 0) (s : State) → ((t : State) → Q t ⊎ E t → IsAtEnd m t) → Within m frames Q E least most s → (n : ℕ) (t : State) → Reach m n s t → (n ≤ most) × Fate m frames Q E least n t

@@ -2,7 +2,7 @@
 use Rattle.std.proofs.Common.{◌≡◌, ℕ, zero, suc, List, [], ◌∷◌, ◌++◌, length, take, drop, map, reverse, Some, refl, ap, sym, ◌∙◌, subst}
 use Rattle.std.specs.Prelude.{slice_get, slice_set}
 use Rattle.std.specs.Option.{option_map}
-use Rattle.std.proofs.lemmas.Option.{slice_get-map}
+use Rattle.std.proofs.lemmas.Option.{slice_get-map, same_Some}
 use Rattle.std.proofs.lemmas.List.{reverse-append, map-append}
 use Rattle.wasm_core.specs.declared.types.ValType.{ValType}
 use Rattle.wasm_core.specs.declared.types.ValType.TheVariants as type
@@ -11,7 +11,7 @@ use Rattle.wasm_core.specs.declared.types.ConstValue.TheVariants.{I32}
 use Rattle.wasm_core.specs.Instance.{zero_of}
 use Rattle.wasm_core.specs.ModuleTyping.{OperandTypes, Operands, OperandType, Of, Bottom, known, Match, match_none, match_same, match_bottom}
 use Rattle.wasm_core.specs.Safe.{HasType, is_i32, is_i64, HaveTypes, no_values, values}
-use Rattle.wasm_core.proofs.Small.{inj, no}
+use Rattle.wasm_core.proofs.Small.{no}
 
 pub have_append : {xs ys : List ConstValue} {as' bs : Operands} → HaveTypes xs as' → HaveTypes ys bs → HaveTypes (xs ++ ys) (as' ++ bs)
 have_append no_values h = h
@@ -55,12 +55,12 @@ known_reverse (t ∷ ts) =
 
 pub have_get : {xs : List ConstValue} {os : Operands} (i : ℕ) (o : OperandType) → HaveTypes xs os → slice_get os i ≡ Some o → (v : ConstValue) × (slice_get xs i ≡ Some v) × HasType v o
 have_get i o no_values e = no e
-have_get zero o (values {v = v} t h) e = (v, refl, subst (HasType v) (inj e) t)
+have_get zero o (values {v = v} t h) e = (v, refl, subst (HasType v) (same_Some _ _ e) t)
 have_get (suc i) o (values t h) e = have_get i o h e
 
 pub have_set : {xs : List ConstValue} {os : Operands} (i : ℕ) (o : OperandType) (v : ConstValue) → HaveTypes xs os → slice_get os i ≡ Some o → HasType v o → HaveTypes (slice_set xs i v) os
 have_set i o v no_values e t = no e
-have_set zero o v (values s h) e t = values (subst (HasType v) (sym (inj e)) t) h
+have_set zero o v (values s h) e t = values (subst (HasType v) (sym (same_Some _ _ e)) t) h
 have_set (suc i) o v (values s h) e t = values s (have_set i o v h e t)
 
 pub known_at : (ls : OperandTypes) (i : ℕ) (t : ValType) → slice_get ls i ≡ Some t → slice_get (known ls) i ≡ Some (Of t)

@@ -1,7 +1,7 @@
 -- The shortest bytes of a whole module spell it.
 use Rattle.std.proofs.Common.{◌≡◌, ℕ, zero, suc, ◌+◌, ◌-◌, ◌/◌, ◌%◌, ◌^◌, ◌<◌, ◌≤◌, List, [], ◌∷◌, ◌++◌, length, Option, Some, None, Bool, true, false, refl, sym, ap, subst, arith, append_assoc, append-nil, length-append}
-use Rattle.std.specs.Prelude.{nat_le, nat_eq, if◌then◌else◌, replicate, is_some, ◌||◌}
-use Rattle.std.proofs.lemmas.Bool.{le-leb, lt-ltb, eq-eqb, ne_eqb}
+use Rattle.std.specs.Prelude.{nat_le, nat_eq, if◌then◌else◌, replicate, is_some}
+use Rattle.std.proofs.lemmas.Bool.{le-leb, lt-ltb, eq-eqb, ne_eqb, or_right}
 use Rattle.std.proofs.lemmas.List.{length-replicate}
 use Rattle.wasm_core.specs.Spelling.{SpellsPart}
 use Rattle.wasm_core.specs.Parts.{Parts}
@@ -179,12 +179,8 @@ unfolding sections
 whole_at x zero last e = (eq-eqb _ _ e, refl)
 whole_at x (suc f) last e = (eq-eqb _ _ e, refl)
 
-or_true : (a : Bool) {b : Bool} → b ≡ true → (a || b) ≡ true
-or_true true e = refl
-or_true false e = e
-
 later_id : (last id : ℕ) (which : Section) → last < id → find id sections_by_id ≡ Some which → section_id last id ≡ Some which
-later_id last id which l e = subst (λ (b : Bool). (if b then find id sections_by_id else None) ≡ Some which) (sym (or_true (nat_eq id 0) (lt-ltb last id l))) e
+later_id last id which l e = subst (λ (b : Bool). (if b then find id sections_by_id else None) ≡ Some which) (sym (or_right (nat_eq id 0) _ (lt-ltb last id l))) e
 
 last_is : (last id : ℕ) → last < id → last_after last id ≡ id
 last_is last id l = ap (λ (b : Bool). if b then last else id) (ne_eqb id 0 (λ e. omega arith))

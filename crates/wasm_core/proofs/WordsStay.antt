@@ -3,7 +3,8 @@ use Rattle.std.proofs.Common.{◌≡◌, ℕ, zero, suc, ◌+◌, ◌-◌, ◌*�
 use Rattle.std.specs.Prelude.{slice_get, slice_set, if◌then◌else◌, nat_le, nat_eq, ◌&&◌, IfSome}
 use Rattle.std.specs.Option.{option_and_then, unwrap_or}
 use Rattle.std.proofs.lemmas.List.{length-replicate}
-use Rattle.std.proofs.lemmas.Bool.{leb-true}
+use Rattle.std.proofs.lemmas.Bool.{leb-true, and_parts}
+use Rattle.std.proofs.lemmas.Option.{same_Some}
 use Rattle.wasm_core.specs.declared.types.ValType.{ValType}
 use Rattle.wasm_core.specs.declared.types.ValType.TheVariants as type
 use Rattle.wasm_core.specs.declared.types.FuncType.{FuncType}
@@ -27,7 +28,7 @@ use Rattle.wasm_core.specs.HostStore.{start_in, main_start_in}
 use Rattle.wasm_core.specs.ModuleCondition.{All as Each}
 use Rattle.wasm_core.specs.Words.{IsWord, HasWord, IsByte, HasWords, IsLabel, IsFrame, IsStore, IsConf, IsWordy}
 use Rattle.wasm_core.specs.Laws.{WordsStay, HostedWordsStay, FirstIsReady}
-use Rattle.wasm_core.proofs.Small.{inj, some_of}
+use Rattle.wasm_core.proofs.Small.{some_of}
 use Rattle.wasm_core.proofs.Eaches.{each_append, each_reverse, each_take, each_drop, each_get, each_set, each_replicate, each_map, each_all}
 use Rattle.wasm_core.proofs.Bits.{unary_small, binary_small, byte_small, word_small, put_byte_bytes, put_word_bytes, put_byte_length, put_word_length}
 use Rattle.wasm_core.proofs.Gives.{Gives, gives_at, g_some, g_if, g_i32, g_one, g_taking}
@@ -65,7 +66,7 @@ body_of m f g e =
     let (index, hf, e1) = some_of (λ index. func_with m f index) (slice_get m.funcs f) g e in
     let (t, ht, e2) = some_of (λ (t : FuncType). option_and_then (λ (b : Body). Some (record { type = t; body = b })) (slice_get m.bodies f)) (slice_get m.types index) g e1 in
     let (b, hb, e3) = some_of (λ (b : Body). Some (record { type = t; body = b })) (slice_get m.bodies f) g e2 in
-    hb ∙ ap (λ (g : Func). Some g.body) (inj e3)
+    hb ∙ ap (λ (g : Func). Some g.body) (same_Some _ _ e3)
 
 zero_word : (t : ValType) → IsWord (zero_of t)
 zero_word type.I32 = omega arith
@@ -78,10 +79,6 @@ bound_of (Some most) min h = h.0
 pages_of : (o : Option Limits) → IfSome o AreLimits → (greatest_pages o ≤ 65536) × (least o ≤ 65536)
 pages_of None h = (omega arith, omega arith)
 pages_of (Some l) h = (bound_of l.max l.min h.greatest, h.least)
-
-both_true : (a b : Bool) → (a && b) ≡ true → b ≡ true
-both_true true b e = e
-both_true false b e = cc
 
 pub zeroed_length : (n : ℕ) → length (zeroed n) ≡ 65536 * n
 unfolding zeroed
@@ -186,7 +183,7 @@ module _ (m : Parts) (hm : HasWords m) (g : Bool) where
       (storing c (record c.store { pages = c.store.pages + n; memory = c.store.memory ++ zeroed n }) (I32 c.store.pages ∷ vals) rest)
       (storing c (record c.store { refused = true; by_choice = nat_le (c.store.pages + n) (greatest_pages m.memory) }) (I32 (2 ^ 32 - 1) ∷ vals) rest)
       (λ e.
-      let le : c.store.pages + n ≤ greatest_pages m.memory = leb-true (c.store.pages + n) (greatest_pages m.memory) (both_true g _ e) in
+      let le : c.store.pages + n ≤ greatest_pages m.memory = leb-true (c.store.pages + n) (greatest_pages m.memory) (and_parts g _ e).1 in
       let most = (pages_of m.memory hm.memory).0 in
       let few : c.store.pages ≤ 65536 = h.store.pages in
       stores c h (record c.store { pages = c.store.pages + n; memory = c.store.memory ++ zeroed n })

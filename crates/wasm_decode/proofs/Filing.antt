@@ -1,15 +1,16 @@
 -- The sections of a file.
 use Rattle.std.proofs.Common.{◌≡◌, ℕ, zero, suc, ◌+◌, ◌<◌, ◌≤◌, List, [], ◌∷◌, length, Ok, Err, true, false, refl, ◌∙◌, arith}
-use Rattle.wasm_core.specs.Format.{DecodeOutcome, Accepted, Refused, judge}
+use Rattle.wasm_core.specs.Format.{Accepted, Refused, judge}
 use Rattle.wasm_core.specs.ModuleGrammar.{next_section, sections, is_whole}
 use Rattle.wasm_core.specs.Parts.{Parts}
-use Rattle.wasm_decode.specs.Reads.{judged, Goes, Reads}
+use Rattle.wasm_decode.specs.Reads.{judged, Reads}
 use Rattle.wasm_decode.specs.Reading.{ReadsSections}
 use Rattle.wasm_core.specs.declared.binary_faults.DecodeFault.{DecodeFault}
 use Rattle.wasm_core.specs.declared.binary_faults.DecodeFault.TheVariants as faults
 use Rattle.wasm_decode.specs.declared.cursor.Cursor.{Cursor}
 use Rattle.wasm_decode.specs.declared.found.Found.{Found}
 use Rattle.wasm_decode.specs.Found.{parts_of}
+use Rattle.wasm_decode.proofs.Meaning.{goes_with}
 use Rattle.std.proofs.lemmas.Bool.{eq-eqb, ne_eqb}
 
 -- The sections up to here are read.
@@ -32,10 +33,6 @@ filed old now new before last parts then id s g r = record {
       let (p, h3, e2) = next now.at now.rest.now m last parts s h2 in
       (p, (let a = r.shorter in omega (arith, a, h2, h3)), e ∙ e2 ∙ r.goes (λ q. sections p q.0 q.1) []);
 }
-
-goes_with : {X Y : Type 0} (e : DecodeFault) (o p : DecodeOutcome Parts) (g : X → DecodeOutcome Parts) (h : Y → DecodeOutcome Parts) → o ≡ p → Goes {X = X} (Err e) p g → Goes {X = Y} (Err e) o h
-goes_with faults.Memory o p g h q f = tt
-goes_with (faults.Bad n) o p g h q f = q ∙ f
 
 pub unfiled : (old now new : Cursor) (before after : Parts) (last : ℕ) (parts : Parts) (then : ℕ → ℕ × Parts) (e : DecodeFault) → 0 < length now.rest.now → Filing old now before last parts → Reads {X = ℕ} (Err e) now new (next_section last parts) then → ReadsSections (Err e) old before after
 unfiled old now new before after last parts then e s g r = record {

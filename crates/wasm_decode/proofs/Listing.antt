@@ -1,6 +1,6 @@
 -- Lists that are read one after another.
-use Rattle.std.proofs.Common.{◌≡◌, ℕ, zero, suc, ◌+◌, ◌-◌, ◌<◌, ◌≤◌, List, [], ◌∷◌, ◌++◌, length, true, false, refl, sym, ap, ◌∙◌, arith, append_assoc, append-nil, length-append}
-use Rattle.std.proofs.lemmas.List.{length-replicate}
+use Rattle.std.proofs.Common.{◌≡◌, ℕ, suc, ◌+◌, ◌-◌, ◌<◌, ◌≤◌, List, [], ◌∷◌, ◌++◌, length, true, false, refl, sym, ap, ◌∙◌, arith, append_assoc, append-nil, length-append}
+use Rattle.std.proofs.lemmas.List.{length-replicate, replicate_more}
 use Rattle.std.proofs.lemmas.Bool.{le-leb}
 use Rattle.wasm_core.specs.Format.{Number}
 use Rattle.wasm_core.specs.ModuleGrammar.{Spelling, times, groups, locals, val_type}
@@ -45,12 +45,8 @@ pub record Grouping (old now : Cursor) (left : ℕ) (done : List ValType) : Type
   pub shorter : length now.rest.now < length old.rest.now
   pub goes : (k : List ValType → Spelling) (ws : List (List ℕ)) → judged old (locals k) ws ≡ judged now (groups left done k) ws
 
-one_more : {X : Type 0} (n : ℕ) (x : X) → replicate n x ++ x ∷ [] ≡ replicate (suc n) x
-one_more zero x = refl
-one_more (suc n) x = ap (λ xs. x ∷ xs) (one_more n x)
-
 pub replicate_push : {X : Type 0} (xs : List X) (n : ℕ) (x : X) → (xs ++ replicate n x) ++ x ∷ [] ≡ xs ++ replicate (n + 1) x
-replicate_push xs n x = let e : n + 1 ≡ suc n = omega arith in rw e (append_assoc xs (replicate n x) (x ∷ []) ∙ ap (λ ys. xs ++ ys) (one_more n x))
+replicate_push xs n x = append_assoc xs (replicate n x) (x ∷ []) ∙ ap (λ ys. xs ++ ys) (replicate_more n x)
 
 pub replicate_none : {X : Type 0} (xs : List X) (x : X) → xs ≡ xs ++ replicate 0 x
 replicate_none xs x = sym (append-nil xs)

@@ -1,16 +1,15 @@
 -- The blocks that are open, and the instructions in them.
 use Rattle.std.proofs.Common.{◌≡◌, ℕ, zero, suc, ◌+◌, ◌<◌, ◌≤◌, List, [], ◌∷◌, ◌++◌, length, reverse, Ok, Err, Bool, false, refl, sym, ap, subst, ◌∙◌, arith}
 use Rattle.std.proofs.lemmas.List.{reverse-append}
-use Rattle.wasm_core.specs.Format.{DecodeOutcome, judge}
+use Rattle.wasm_core.specs.Format.{judge}
 use Rattle.wasm_core.specs.ModuleGrammar.{Spelling, instr, instrs}
-use Rattle.wasm_core.specs.Parts.{Parts}
 use Rattle.wasm_core.specs.ModuleCondition.{opens_after}
 use Rattle.wasm_core.specs.declared.instrs.Instr.{Instr}
-use Rattle.wasm_decode.specs.Reads.{judged, Goes, Reads}
+use Rattle.wasm_decode.specs.Reads.{judged, Reads}
 use Rattle.wasm_decode.specs.Reading.{ReadsInstrs}
 use Rattle.wasm_core.specs.declared.binary_faults.DecodeFault.{DecodeFault}
-use Rattle.wasm_core.specs.declared.binary_faults.DecodeFault.TheVariants as faults
 use Rattle.wasm_decode.specs.declared.cursor.Cursor.{Cursor}
+use Rattle.wasm_decode.proofs.Meaning.{goes_with}
 
 -- one block more, the innermost last
 pub opened : (now old : List Bool) (b : Bool) → now ≡ old ++ b ∷ [] → reverse now ≡ b ∷ reverse old
@@ -41,10 +40,6 @@ instructed old now new may os code seen x g r = record {
       let (p, h3, e2) = step now new m may os code k ws r.shorter h2 in
       (p, h3, e ∙ e2 ∙ r.goes (λ i. instrs p (opens_after i (may ∷ os)) (code ++ i ∷ []) k) ws);
 }
-
-goes_with : {X Y : Type 0} (e : DecodeFault) (o p : DecodeOutcome Parts) (g : X → DecodeOutcome Parts) (h : Y → DecodeOutcome Parts) → o ≡ p → Goes {X = X} (Err e) p g → Goes {X = Y} (Err e) o h
-goes_with faults.Memory o p g h q f = tt
-goes_with (faults.Bad n) o p g h q f = q ∙ f
 
 empty_stuck : (at : ℕ) (w : List ℕ) (may : Bool) (os : List Bool) (code : List Instr) (k : List Instr → Spelling) (ws : List (List ℕ)) → length w ≤ 0 → judge (instrs 0 (may ∷ os) code k) at w ws ≡ judge (instr may (λ i. k code)) at w ws
 unfolding instrs judge instr

@@ -1,21 +1,19 @@
 -- The parts of a module, and that a lifted program can be emitted.
 use Rattle.std.proofs.Common.{◌≡◌, ℕ, zero, suc, ◌+◌, ◌-◌, ◌<◌, List, [], ◌∷◌, ◌++◌, Some, length, map, replicate, append_assoc, refl, ap, sym, subst, ◌∙◌, arith}
+use Rattle.std.proofs.lemmas.List.{length-map}
 use Rattle.std.specs.Prelude.{slice_get}
-use Rattle.anf_convert.specs.Anf.{AnfBlock}
-use Rattle.closure_lift.specs.Lift.{block_functions, lift_constants}
 use Rattle.closure_lift.specs.Lifted.{Program}
 use Rattle.closure_lift.specs.LiftedProgram.{renumber, place_in, lifted_of}
 use Rattle.closure_lift.specs.declared.program.Lifted.{Lifted}
 use Rattle.closure_lift.specs.declared.program.LiftedConstant.{LiftedConstant}
 use Rattle.closure_lift.proofs.CapturedLimit.{captured_exactly}
-use Rattle.closure_lift.proofs.Forms.{lift_forms}
+use Rattle.closure_lift.proofs.Forms.{constants_number, lift_forms}
 use Rattle.wasm_core.specs.ModuleCondition.{All}
 use Rattle.wasm_emit.specs.EmitLaws.{CountsFit}
 use Rattle.wasm_emit.specs.EmittedCode.{constant_index}
 use Rattle.wasm_emit.specs.EmittedModule.{entries, main_index}
 use Rattle.wasm_emit.specs.Emission.{Emits, LiftedCanBeEmitted}
 use Rattle.wasm_emit.specs.EmittedBodies.{FewInFunction, FewInBlock, FewLocals}
-use Rattle.wasm_emit.proofs.Indices.{length_map}
 
 -- the entries from one on
 pub entries_step : (n k : ℕ) → k < n → entries (k + 1) (n - k) ≡ (k + 1) ∷ entries (k + 1 + 1) (n - (k + 1))
@@ -54,17 +52,13 @@ counts_fit P x few = record {
 }
 
 pub main_is : (Q : Lifted) (k main : ℕ) → k ≡ length Q.constants → main ≡ constant_index (lifted_of Q) k → main ≡ main_index (lifted_of Q)
-main_is Q k main count is = omega (arith, count, is, length_map (λ (c : LiftedConstant). renumber (place_in Q.constants) c.body) Q.constants)
-
-lifted_count : (g : ℕ) (ts : List AnfBlock) → length (lift_constants g ts) ≡ length ts
-lifted_count g [] = refl
-lifted_count g (t ∷ ts) = ap suc (lifted_count (g + block_functions t) ts)
+main_is Q k main count is = omega (arith, count, is, length-map Q.constants (λ (c : LiftedConstant). renumber (place_in Q.constants) c.body))
 
 pub lifted_can_be_emitted : LiftedCanBeEmitted
 lifted_can_be_emitted P most m form few captures le count = record {
   most = m;
   formed = lift_forms P m form;
   within = record { captured = λ g fn at. let h = (captured_exactly P most m form).0 captures g fn at in omega (arith, h, le); few = omega (arith, count) };
-  constants = omega (arith, count, lifted_count 0 P.constants);
+  constants = omega (arith, count, constants_number 0 P.constants);
   branches = few;
 }

@@ -2,6 +2,7 @@
 use Rattle.std.proofs.Common.{◌≡◌, ℕ, zero, suc, ◌+◌, ◌≤◌, List, [], ◌∷◌, ◌++◌, length, drop, Option, Some, None, Bool, true, false, refl, sym, ◌∙◌, subst, arith}
 use Rattle.std.proofs.lemmas.Bool.{leb-true, eqb-true}
 use Rattle.std.specs.Prelude.{slice_get, slice_set, nat_le, nat_eq, if◌then◌else◌, ◌&&◌}
+use Rattle.std.proofs.lemmas.Option.{same_Some}
 use Rattle.wasm_core.specs.declared.types.FuncType.{FuncType}
 use Rattle.wasm_core.specs.declared.types.ConstValue.{ConstValue}
 use Rattle.wasm_core.specs.declared.types.ConstValue.TheVariants.{I32, I64}
@@ -13,7 +14,7 @@ use Rattle.wasm_core.specs.Parts.{Parts}
 use Rattle.wasm_core.specs.Arithmetic.{flag, is_unary}
 use Rattle.wasm_core.specs.Instance.{Func, func_of, table_of, greatest_pages}
 use Rattle.wasm_core.specs.MachineStep.{Bracket, Opens, Divides, Closes, Plain, bracket, past_end, to_else, after_end, else_arm, BlockLabel, Frame, Store, Conf, State, At, Over, on_some, taking, arm, leave_block, back, at_end, jump, call, tail_call, on_entry, same_func_type, within, operation, act, next, step, Reach}
-use Rattle.wasm_core.proofs.Small.{inj, no}
+use Rattle.wasm_core.proofs.Small.{no}
 
 -- an emitted instruction that neither grows memory nor sets the status
 abbrev pub NotStatus : Instr → Type 0
@@ -136,7 +137,7 @@ arm_wary (suc x) w = w
 
 label_wary : (ks : List BlockLabel) (x : ℕ) {k : BlockLabel} → Labels ks → slice_get ks x ≡ Some k → Wary k.goes_on
 label_wary [] x l e = no e
-label_wary (k ∷ ks) zero l e = subst (λ (k : BlockLabel). Wary k.goes_on) (inj e) l.0
+label_wary (k ∷ ks) zero l e = subst (λ (k : BlockLabel). Wary k.goes_on) (same_Some _ _ e) l.0
 label_wary (k ∷ ks) (suc x) l e = label_wary ks x l.1 e
 
 labels_left : (n : ℕ) (ks : List BlockLabel) → Labels ks → Labels (drop n ks)

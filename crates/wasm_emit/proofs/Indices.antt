@@ -1,5 +1,5 @@
 -- Where a module has its functions, and the entries of its table.
-use Rattle.std.proofs.Common.{◌≡◌, ℕ, zero, suc, ◌+◌, ◌<◌, ◌≤◌, List, [], ◌∷◌, ◌++◌, length, map, replicate, Option, Some, None, refl, ap, ◌∙◌, arith}
+use Rattle.std.proofs.Common.{◌≡◌, ℕ, zero, suc, ◌+◌, ◌<◌, ◌≤◌, List, [], ◌∷◌, ◌++◌, length, replicate, Option, Some, None, refl, ap, ◌∙◌, arith}
 use Rattle.std.proofs.lemmas.List.{length-replicate}
 use Rattle.std.specs.Option.{option_and_then}
 use Rattle.std.specs.Prelude.{slice_get, slice_set}
@@ -19,10 +19,6 @@ pub at_front : {A : Type 0} (xs ys : List A) (i : ℕ) {a : A} → slice_get xs 
 at_front [] ys i e = cc
 at_front (a ∷ xs) ys zero e = e
 at_front (a ∷ xs) ys (suc i) e = at_front xs ys i e
-
-pub length_map : {A B : Type 0} (f : A → B) (xs : List A) → length (map f xs) ≡ length xs
-length_map f [] = refl
-length_map f (x ∷ xs) = ap suc (length_map f xs)
 
 pub func_is : (m : Parts) (f index : ℕ) (t : FuncType) (b : Body) → slice_get m.funcs f ≡ Some index → slice_get m.types index ≡ Some t → slice_get m.bodies f ≡ Some b → func_of m f ≡ Some (record { type = t; body = b })
 func_is m f index t b e et eb =

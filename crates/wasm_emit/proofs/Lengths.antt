@@ -1,7 +1,7 @@
 -- How long the bytes of numbers, instructions and bodies are.
 use Rattle.std.proofs.Common.{◌≡◌, ℕ, zero, suc, ◌+◌, ◌-◌, ◌/◌, ◌%◌, ◌^◌, ◌<◌, ◌≤◌, List, [], ◌∷◌, ◌++◌, length, length-append, replicate, Bool, true, false, refl, ap, sym, ◌∙◌, subst, arith}
-use Rattle.std.proofs.lemmas.Bool.{lt-ltb, ltb-false}
-use Rattle.std.specs.Prelude.{nat_lt, if◌then◌else◌, ◌&&◌}
+use Rattle.std.proofs.lemmas.Bool.{and_from, lt-ltb, ltb-false}
+use Rattle.std.specs.Prelude.{nat_lt, if◌then◌else◌}
 use Rattle.wasm_core.specs.declared.types.ValType.{ValType}
 use Rattle.wasm_core.specs.declared.types.ValType.TheVariants.{I32}
 use Rattle.wasm_core.specs.declared.instrs.BlockType.{BlockType}
@@ -41,14 +41,10 @@ s_any (suc g) bits n w =
     (λ e. chosen (is_high bits n) ((128 - (2 ^ bits - n)) ∷ w) ((n % 128 + 128) ∷ signed g (bits - 7) (n / 128) w) (suc g + length w) (λ e. omega arith) (λ e. omega (arith, s_any g (bits - 7) (n / 128) w)))
 
 -- small signed numbers of 32 bits
-both : (a b : Bool) → a ≡ true → b ≡ true → (a && b) ≡ true
-both true b e f = f
-both false b e f = cc
-
 s_1 : (g n : ℕ) (w : List ℕ) → n < 64 → length (signed (suc g) 18 n w) ≤ 1 + length w
 unfolding signed
 s_1 g n w h =
-    let low : is_low 18 n ≡ true = both (nat_lt n 64) (nat_lt n (2 ^ 17)) (lt-ltb n 64 h) (lt-ltb n (2 ^ 17) (omega arith)) in
+    let low : is_low 18 n ≡ true = and_from (nat_lt n 64) (nat_lt n (2 ^ 17)) (lt-ltb n 64 h) (lt-ltb n (2 ^ 17) (omega arith)) in
     chosen (is_low 18 n) (n ∷ w) (if is_high 18 n then (128 - (2 ^ 18 - n)) ∷ w else (n % 128 + 128) ∷ signed g (18 - 7) (n / 128) w) (1 + length w) (λ e. omega arith) (λ e. cc)
 
 s_2 : (g n : ℕ) (w : List ℕ) → n < 8192 → length (signed (suc (suc g)) 25 n w) ≤ 2 + length w

@@ -1,14 +1,14 @@
 -- Evaluation of lifted programs is determined, and so is its call depth.
 use Rattle.std.proofs.Common.{◌≡◌, ℕ, Bool, true, false, List, max, refl, sym, ap, ◌∙◌, subst}
 use Rattle.std.specs.Prelude.{slice_get}
+use Rattle.std.proofs.lemmas.Option.{same_Some}
 use Rattle.anf_convert.specs.declared.program.Atom.{Atom}
 use Rattle.anf_convert.specs.declared.program.Atom.TheVariants.{Var as AVar}
 use Rattle.closure_lift.specs.Lifted.{Op, OApp, Block, BranchBlocks, Fn, Program, Val, VBox, VCon, VClos, Vals, VNil, VCons, ◌+v◌, size, BranchAt, branch_here, branch_after, Is, is_var, is_box, is_empty, AllAre, are_none, are_more, Does, do_const, do_app, do_box_app, do_con, do_clos, do_case, Gets, gets_atom, gets_let_atom, gets_ret, gets_let, LiftedAnswers, answers_alone, answers_applied}
-use Rattle.wasm_core.proofs.Small.{inj}
 use Rattle.wasm_emit.specs.CallDepth.{with_call, op_depth, block_depth, call_depth, CallDepthsAreOne}
 
 one_atom : {e : Vals} {a : Atom} {v u : Val} → Is e a v → Is e a u → v ≡ u
-one_atom (is_var at) (is_var at') = inj (sym at ∙ at')
+one_atom (is_var at) (is_var at') = same_Some _ _ (sym at ∙ at')
 one_atom is_box is_box = refl
 one_atom is_empty is_empty = refl
 
@@ -37,13 +37,13 @@ module _ {P : Program} {w w' : ℕ} where
   mutual
     one_op : {e : Vals} {op : Op} {v u : Val} {c c' k k' b b' l l' : ℕ} (tail : Bool) (h : Does P w e op v c k b l) (g : Does P w' e op u c' k' b' l') → (v ≡ u) × (op_depth tail h ≡ op_depth tail g)
     one_op {v = v} {u = u} tail (do_const at g) (do_const {c = c'} {k = k'} {b = b'} {l = l'} at' g') =
-        let x = subst (λ t. (q : Gets P w' VNil t u c' k' b' l') → (v ≡ u) × (block_depth true g ≡ block_depth true q)) (inj (sym at ∙ at')) (λ q. one_block true g q) g' in
+        let x = subst (λ t. (q : Gets P w' VNil t u c' k' b' l') → (v ≡ u) × (block_depth true g ≡ block_depth true q)) (same_Some _ _ (sym at ∙ at')) (λ q. one_block true g q) g' in
         (x.0, ap (with_call tail) x.1)
     one_op {v = v} {u = u} tail (do_app {e' = e1} {g = f} {fn = fn} {v = a} isf isa at sz g) (do_app {e' = e2} {g = f'} {fn = fn'} {v = a'} {c = c'} {k = k'} {b = b'} {l = l'} isf' isa' at' sz' g') =
         let same = one_atom isf isf' in
         let args = one_atom isa isa' in
         let env : VCons a e1 ≡ VCons a' e2 = λ i. VCons (args i) (words_of (same i)) in
-        let body : fn.body ≡ fn'.body = ap (λ (f : Fn). f.body) (inj (sym at ∙ ap (λ y. slice_get P.functions (number_of y)) same ∙ at')) in
+        let body : fn.body ≡ fn'.body = ap (λ (f : Fn). f.body) (same_Some _ _ (sym at ∙ ap (λ y. slice_get P.functions (number_of y)) same ∙ at')) in
         let x = subst (λ t. (q : Gets P w' (VCons a' e2) t u c' k' b' l') → (v ≡ u) × (block_depth true g ≡ block_depth true q)) body
         (subst (λ y. (q : Gets P w' y fn.body u c' k' b' l') → (v ≡ u) × (block_depth true g ≡ block_depth true q)) env (λ q. one_block true g q)) g' in
         (x.0, ap (with_call tail) x.1)

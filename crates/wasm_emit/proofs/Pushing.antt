@@ -1,17 +1,17 @@
 -- Steps of the functions that push instructions.
 use Rattle.std.proofs.Common.{◌≡◌, ℕ, zero, suc, ◌+◌, ◌-◌, ◌<◌, ◌≤◌, List, [], ◌∷◌, ◌++◌, length, append-nil, reverse, drop, get_or, max, refl, ap, sym, ◌∙◌, arith}
 use Rattle.std.proofs.Math.ListN.{drop_of_length-le}
-use Rattle.std.proofs.lemmas.List.{drop_more, get_or-reverse, length-reverse}
+use Rattle.std.proofs.lemmas.List.{get_or-reverse, length-reverse}
 use Rattle.std.specs.Prelude.{Result, Ok, Err, IfOk, OnOk}
 use Rattle.anf_convert.specs.declared.program.Atom.{Atom}
-use Rattle.closure_lift.specs.Lifted.{Op, OConst, OApp, OCon, OClos, OCase, Block, RetAtom, LetAtom, Ret, Let, BranchBlocks, BNil, BCons, BranchAt, branch_here, branch_after, Fn, Bound, AtomBound, OpBound, ret_of, lets_of}
-use Rattle.closure_lift.specs.LiftedProgram.{renumber_op, renumber, renumber_branches, renumber_functions}
-use Rattle.closure_lift.specs.LiftedView.{seen, bounds_of, branches_of, functions_of}
-use Rattle.closure_lift.specs.declared.program.Function.{Function}
+use Rattle.closure_lift.specs.Lifted.{Op, OConst, OApp, OCon, OClos, OCase, Block, RetAtom, LetAtom, Ret, Let, BranchBlocks, BNil, BCons, BranchAt, branch_here, branch_after, Bound, AtomBound, OpBound, ret_of, lets_of}
+use Rattle.closure_lift.specs.LiftedProgram.{renumber_op, renumber, renumber_branches}
+use Rattle.closure_lift.specs.LiftedView.{seen, bounds_of, branches_of}
 use Rattle.closure_lift.specs.declared.program.LiftedBranch.{LiftedBranch}
 use Rattle.closure_lift.specs.declared.program.LiftedConstant.{LiftedConstant}
 use Rattle.closure_lift.specs.declared.program.LiftedOp.{LiftedOp}
 use Rattle.closure_lift.specs.declared.program.LiftedOp.TheVariants as lifted
+use Rattle.closure_lift.proofs.Noting.{next_of}
 use Rattle.wasm_core.specs.declared.instrs.Instr.{Instr}
 use Rattle.wasm_core.specs.declared.instrs.Instr.TheVariants.{End}
 use Rattle.wasm_emit.specs.EmittedLocals.{top, top_op, top_branches}
@@ -43,19 +43,6 @@ branches_least d (BCons n t bs) = omega (arith, branches_least d bs)
 pub top_end : (d : ℕ) (x : Bound) → top d (ret_of x) ≡ bound_locals d x
 top_end d (AtomBound a) = refl
 top_end d (OpBound x) = refl
-
--- the number of functions
-pub renumbered_count : (f : ℕ → ℕ) (fs : List Fn) → length (renumber_functions f fs) ≡ length fs
-renumbered_count f [] = refl
-renumbered_count f (g ∷ fs) = ap suc (renumbered_count f fs)
-
-pub functions_count : (fs : List Function) → length (functions_of fs) ≡ length fs
-functions_count [] = refl
-functions_count (g ∷ fs) = ap suc (functions_count fs)
-
--- the next of a list, and its end
-pub next_of : {A : Type 0} (xs : List A) (i : ℕ) (x : A) → i < length xs → x ≡ get_or xs i x → drop i xs ≡ x ∷ drop (i + 1) xs
-next_of xs i x lt is = drop_more xs i x lt ∙ ap (λ y. y ∷ drop (i + 1) xs) (sym is)
 
 -- the locals at the end of a block
 pub end_locals : (items : List LiftedOp) (i at : ℕ) (t : LiftedOp) → length items ≤ i → top at (lets_of (bounds_of (drop i items)) (ret_of (seen t))) ≡ bound_locals at (seen t)

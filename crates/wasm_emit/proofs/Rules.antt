@@ -1,6 +1,6 @@
 -- The rules of the machine at the stores of an emitted module: three globals, of which the first two are 0 until main returns, and no refused grow.
 use Rattle.std.proofs.Common.{◌≡◌, ℕ, suc, ◌+◌, ◌-◌, ◌*◌, ◌%◌, ◌^◌, ◌<◌, ◌≤◌, List, [], ◌∷◌, ◌++◌, length, map, replicate, Some, Bool, true, false, refl, ◌∙◌, arith}
-use Rattle.std.proofs.lemmas.List.{length-replicate}
+use Rattle.std.proofs.lemmas.List.{length-map, length-replicate}
 use Rattle.std.specs.Prelude.{slice_get, slice_set}
 use Rattle.wasm_core.specs.declared.types.ValType.{ValType}
 use Rattle.wasm_core.specs.declared.types.ValType.TheVariants as type
@@ -22,7 +22,6 @@ use Rattle.wasm_emit.specs.EmittedCode.{Load, StoreWord as Put, ConstWord}
 use Rattle.wasm_emit.specs.EmittedModule.{body, type_main, type_constant, type_function}
 use Rattle.wasm_emit.specs.EmitLaws.{Spent}
 use Rattle.wasm_emit.proofs.Bytes.{Mem}
-use Rattle.wasm_emit.proofs.Indices.{length_map}
 
 -- what bounds a whole run: its waiting frames, and the bytes of its blocks; the pages that it begins with; and the further globals, which stay
 pub record Limits : Type 0 where
@@ -65,7 +64,7 @@ abbrev pub zeros : ℕ → List ConstValue
 zeros n = map zero_of (replicate n type.I32)
 
 pub zeros_length : (n : ℕ) → length (zeros n) ≡ n
-zeros_length n = length_map zero_of (replicate n type.I32) ∙ length-replicate {A = ValType} n type.I32
+zeros_length n = length-map (replicate n type.I32) zero_of ∙ length-replicate {A = ValType} n type.I32
 
 -- a function of n locals besides its parameters
 abbrev pub func : FuncType → ℕ → List Instr → Func

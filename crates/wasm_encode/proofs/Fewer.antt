@@ -5,6 +5,7 @@ use Rattle.std.proofs.lemmas.Bool.{lt-ltb, le-ltb, le-leb, ltb-true, ltb-false, 
 use Rattle.std.proofs.lemmas.List.{length-drop}
 use Rattle.std.proofs.Math.Nat.{mod-add-div}
 use Rattle.std.proofs.Math.Pow.{pow_mono}
+use Rattle.std.proofs.lemmas.Option.{same_Some}
 use Rattle.wasm_core.specs.Parts.{Parts}
 use Rattle.wasm_core.specs.ModuleCondition.{All, opens_after}
 use Rattle.wasm_core.specs.Format.{Name, Number}
@@ -28,7 +29,7 @@ use Rattle.wasm_core.specs.declared.instrs.I32Op.{I32Op}
 use Rattle.wasm_core.specs.declared.instrs.Instr.{Instr}
 use Rattle.wasm_core.specs.declared.instrs.Instr.TheVariants as instructions
 use Rattle.wasm_core.proofs.Longer.{u32_longer, unsigned_longer}
-use Rattle.wasm_core.proofs.Inversion.{on_makes, some_is, found_row, take_few}
+use Rattle.wasm_core.proofs.Inversion.{on_makes, found_row, take_few}
 
 -- ---- numbers
 
@@ -480,11 +481,11 @@ opcodes_few = (
 operation_few : (o : Option I32Op) (r : Row) → operation_row o ≡ Some r → IsFew r
 unfolding IsFew put_instr
 operation_few None r e = absurd cc
-operation_few (Some op) r e = let q : Plain (instructions.I32 op) ≡ r = some_is e in subst IsFew q (λ u. omega arith)
+operation_few (Some op) r e = let q : Plain (instructions.I32 op) ≡ r = same_Some _ _ e in subst IsFew q (λ u. omega arith)
 
 found_few : (b : ℕ) (x : Option Row) → find b opcodes ≡ x → (r : Row) → row_or x (find b operations) ≡ Some r → IsFew r
 found_few b None h r e = operation_few (find b operations) r e
-found_few b (Some x) h r e = let q : x ≡ r = some_is e in subst IsFew q (found_row IsFew b opcodes opcodes_few x h)
+found_few b (Some x) h r e = let q : x ≡ r = same_Some _ _ e in subst IsFew q (found_row IsFew b opcodes opcodes_few x h)
 
 opcode_few : (may : Bool) (b : ℕ) (r : Row) → opcode may b ≡ Some r → IsFew r
 opcode_few may b r e =

@@ -1,14 +1,10 @@
--- Bodies as lists of instructions.
+-- What stands from a place of a list on.
 use Rattle.std.proofs.Common.{◌≡◌, ℕ, ◌+◌, List, ◌∷◌, drop, Some, ap, ◌∙◌}
 use Rattle.std.specs.Prelude.{slice_get}
 use Rattle.std.proofs.lemmas.List.{drop_more}
 use Rattle.std.proofs.lemmas.Option.{slice_get_within, get_or_from_slice_get}
-use Rattle.wasm_core.specs.declared.instrs.Instr.{Instr}
 
--- the instruction at a place, and those after it
-pub drop_here : (code : List Instr) (at : ℕ) (i : Instr) → slice_get code at ≡ Some i → drop at code ≡ i ∷ drop (at + 1) code
-drop_here code at i h =
-    drop_more code at i (slice_get_within code at i h) ∙ ap (λ x. x ∷ drop (at + 1) code) (get_or_from_slice_get code at i i h)
-
-pub inj : {A : Type 0} {x y : A} → Some x ≡ Some y → x ≡ y
-inj h = cc
+-- the item at a place, and those after it
+pub drop_here : {A : Type 0} (xs : List A) (at : ℕ) (x : A) → slice_get xs at ≡ Some x → drop at xs ≡ x ∷ drop (at + 1) xs
+drop_here xs at x h =
+    drop_more xs at x (slice_get_within xs at x h) ∙ ap (λ y. y ∷ drop (at + 1) xs) (get_or_from_slice_get xs at x x h)

@@ -1,10 +1,10 @@
 -- The targets of a body, found from its end.
-use Rattle.std.proofs.Common.{◌≡◌, ℕ, zero, suc, ◌+◌, ◌-◌, ◌<◌, List, [], ◌∷◌, ◌++◌, drop, length, reverse, Option, Some, None, refl, ap, sym, ◌∙◌, subst, arith}
+use Rattle.std.proofs.Common.{◌≡◌, ℕ, zero, suc, ◌+◌, ◌-◌, ◌<◌, List, [], ◌∷◌, ◌++◌, drop, length, reverse, Some, refl, ap, sym, ◌∙◌, subst, arith}
 use Rattle.std.specs.Prelude.{slice_get}
 use Rattle.std.proofs.lemmas.List.{length-reverse, get_or-reverse}
-use Rattle.std.proofs.lemmas.Option.{slice_get-get_or, slice_get_within, get_or_from_slice_get}
-use Rattle.wasm_run.proofs.Bodies.{inj}
+use Rattle.std.proofs.lemmas.Option.{slice_get-get_or, slice_get_within, get_or_from_slice_get, same_Some}
 use Rattle.wasm_core.specs.declared.instrs.Instr.{Instr}
+use Rattle.wasm_core.proofs.Small.{no}
 use Rattle.wasm_core.specs.MachineStep.{Opens, Divides, Closes, Plain, bracket, after_end, past_end, else_arm, to_else}
 use Rattle.wasm_run.specs.declared.targets.Target.{Target}
 use Rattle.wasm_run.specs.Targets.{IsTarget, AreTargets, Opened, target_at, tail_of}
@@ -54,12 +54,9 @@ module _ (code : List Instr) (i : Instr) (rest : List Instr) (ts : List Target) 
         other = ap (λ (x : Target). drop x.other code) is ∙ (o (suc d)).other ∙ ap (λ k. to_else k (suc d) (λ e. else_arm e rest) i rest) (sym b);
       }
 
-no : {A B : Type 0} {x : A} → ◌≡◌ {A = Option A} None (Some x) → B
-no h = cc
-
 -- a list with one more item at its end
 pub all_more : {A : Type 0} (P : ℕ → A → Type 0) (xs : List A) (x : A) → ((k : ℕ) (t : A) → slice_get xs k ≡ Some t → P k t) → P (length xs) x → (k : ℕ) (t : A) → slice_get (xs ++ x ∷ []) k ≡ Some t → P k t
-all_more P [] x h p zero t e = subst (P zero) (inj e) p
+all_more P [] x h p zero t e = subst (P zero) (same_Some _ _ e) p
 all_more P [] x h p (suc k) t e = no e
 all_more P (y ∷ xs) x h p zero t e = h zero t e
 all_more P (y ∷ xs) x h p (suc k) t e = all_more (λ j. P (suc j)) xs x (λ j. h (suc j)) p k t e

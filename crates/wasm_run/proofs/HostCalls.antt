@@ -1,9 +1,8 @@
 -- What a host's calls keep: the machine stays at the start of a run of `main`, in a store in which a run may start.
 use Rattle.std.proofs.Common.{◌≡◌, ℕ, zero, suc, ◌+◌, ◌-◌, ◌*◌, ◌^◌, ◌<◌, ◌≤◌, List, [], ◌∷◌, ◌++◌, length, drop, Option, Some, None, Bool, true, false, refl, ap, sym, ◌∙◌, subst, arith, length-append, ⊎_elim}
-use Rattle.std.proofs.lemmas.Option.{slice_get-map}
-use Rattle.std.proofs.lemmas.Bool.{leb-true, le-leb, lt-leb, cases_lt}
-use Rattle.std.proofs.lemmas.List.{drop_more, drop_all}
-use Rattle.std.proofs.lemmas.Option.{slice_get_within, get_or_from_slice_get}
+use Rattle.std.proofs.lemmas.Option.{slice_get-map, same_Some}
+use Rattle.std.proofs.lemmas.Bool.{leb-true, le-leb, lt-leb, cases_lt, and_parts}
+use Rattle.std.proofs.lemmas.List.{drop_all}
 use Rattle.std.specs.Prelude.{slice_get, nat_le, min, ◌&&◌, if◌then◌else◌}
 use Rattle.std.specs.Option.{option_and_then, option_map}
 use Rattle.wasm_core.specs.declared.types.ValType.TheVariants as type
@@ -26,6 +25,7 @@ use Rattle.wasm_core.specs.HostStore.{IsForCall, IsReady, main_start_in, start_i
 use Rattle.wasm_core.proofs.Bits.{put_word_bytes, put_word_length}
 use Rattle.wasm_core.proofs.Eaches.{each_append, each_replicate, each_set}
 use Rattle.wasm_core.proofs.EntryGlobals.{entry_global}
+use Rattle.wasm_core.proofs.Small.{no}
 use Rattle.wasm_core.proofs.Starting.{started_in}
 use Rattle.wasm_core.proofs.Values.{have_set}
 use Rattle.wasm_core.proofs.WordsStay.{zeroed_length}
@@ -34,13 +34,8 @@ use Rattle.wasm_run.specs.Machines.{Reached}
 use Rattle.wasm_run.specs.Standing.{frames, most_frames}
 use Rattle.wasm_run.specs.Threads.{state_of, store_in}
 use Rattle.wasm_run.specs.declared.thread.Thread.{Thread}
-use Rattle.wasm_run.proofs.Bodies.{inj}
-
-no : {A B : Type 0} {x : A} → ◌≡◌ {A = Option A} None (Some x) → B
-no h = cc
-
-drop_here : (ws : List ℕ) (i w : ℕ) → slice_get ws i ≡ Some w → drop i ws ≡ w ∷ drop (i + 1) ws
-drop_here ws i w e = drop_more ws i w (slice_get_within ws i w e) ∙ ap (λ x. x ∷ drop (i + 1) ws) (get_or_from_slice_get ws i w w e)
+use Rattle.wasm_run.proofs.Bodies.{drop_here}
+use Rattle.wasm_run.proofs.Running.{store_of_state}
 
 -- a number is at most the smaller of two exactly where it is at most each
 least_of_two : (a b c : ℕ) → (nat_le a b && nat_le a c) ≡ nat_le a (min b c)
@@ -62,12 +57,8 @@ room_is m cap past le =
 pub no_room : (m : Parts) (cap past : ℕ) → 4294967295 < past → has_room m cap past ≡ false
 no_room m cap past lt = ap (λ b. b && nat_le (pages_for past) (min cap (greatest_pages m.memory))) (lt-leb past 4294967295 lt)
 
-both_left : (a b : Bool) → (a && b) ≡ true → a ≡ true
-both_left true b e = refl
-both_left false b e = e
-
 pub room_small : (m : Parts) (cap past : ℕ) → has_room m cap past ≡ true → past ≤ 4294967295
-room_small m cap past e = leb-true past 4294967295 (both_left (nat_le past 4294967295) (nat_le (pages_for past) (min cap (greatest_pages m.memory))) e)
+room_small m cap past e = leb-true past 4294967295 (and_parts (nat_le past 4294967295) (nat_le (pages_for past) (min cap (greatest_pages m.memory))) e).0
 
 -- words put one after the other
 pub puts_length : (memory : List ℕ) (a : ℕ) (ws : List ℕ) → length (put_words memory a ws) ≡ length memory
@@ -93,7 +84,7 @@ puts_ended memory a i ws le = ap (put_words memory (a + 4 * i)) (drop_all i ws l
 -- a run that starts in one store starts in another
 from_func : (g : Option Func) (st st' : Store) (s : State) → option_and_then (λ (g : Func). Some (start_in st g)) g ≡ Some s → option_and_then (λ (g : Func). Some (start_in st' g)) g ≡ Some (with_store s st')
 from_func None st st' s e = no e
-from_func (Some g) st st' s e = ap (λ (x : State). Some (with_store x st')) (inj e)
+from_func (Some g) st st' s e = ap (λ (x : State). Some (with_store x st')) (same_Some _ _ e)
 
 from_index : (m : Parts) (f : Option ℕ) (st st' : Store) (s : State) → option_and_then (λ f. start_at_in m st f) f ≡ Some s → option_and_then (λ f. start_at_in m st' f) f ≡ Some (with_store s st')
 from_index m None st st' s e = no e
@@ -202,10 +193,6 @@ pub with_thread : (m : Parts) (e : Option Ended) (t t' : Thread) → t'.current 
 with_thread m None t t' current callers = cc
 with_thread m (Some e) t t' current callers = refl
 
-pub store_is : (m : Parts) (e : Option Ended) (t : Thread) → store_of (state_of m e t) ≡ store_in t
-store_is m None t = refl
-store_is m (Some e) t = refl
-
 -- a machine whose store is another one stays at its start
 pub kept_start : (m : Parts) {cap : ℕ} (made : ℕ) {peak : ℕ} (e : Option Ended) (t t' : Thread) (st : Store) → made ≡ 0 → IsForCall m → t'.current ≡ t.current → t'.callers ≡ t.callers → store_in t' ≡ st → IsReady m st →
     Reached m cap made peak (state_of m e t) → Reached m cap made peak (state_of m e t')
@@ -217,7 +204,7 @@ is_at_start m cap made failed s none r = let h = at_start m made s none r in rec
 
 -- the store of a thread from which a run may start
 pub thread_ready : (m : Parts) {cap : ℕ} (made : ℕ) {peak : ℕ} (e : Option Ended) (t : Thread) → made ≡ 0 → Reached m cap made peak (state_of m e t) → IsReady m (store_in t)
-thread_ready m made e t none r = subst (IsReady m) (store_is m e t) (at_start m made (state_of m e t) none r).0
+thread_ready m made e t none r = subst (IsReady m) (store_of_state m e t) (at_start m made (state_of m e t) none r).0
 
 -- a grown memory has so many bytes
 pub held_has : (past : ℕ) (s : Store) → length s.memory ≡ 65536 * s.pages → past ≤ length (held past s).memory

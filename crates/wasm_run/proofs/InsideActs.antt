@@ -9,10 +9,8 @@ use Rattle.wasm_core.specs.declared.instrs.Instr.TheVariants.{Nop, Block, Loop, 
 use Rattle.wasm_core.specs.Arithmetic.{is_unary}
 use Rattle.wasm_core.specs.Parts.{Parts}
 use Rattle.wasm_core.specs.MachineStep.{BlockLabel, Frame, Store, Conf, State, At, act, operation, on_some, going_on}
+use Rattle.wasm_core.proofs.Small.{no}
 use Rattle.wasm_run.specs.Frames.{inside, operating, with_operands}
-
-no : {A B : Type 0} {x : A} → ◌≡◌ {A = Option A} None (Some x) → B
-no h = cc
 
 module _ (m : Parts) (g : Bool) (s : Store) (callers : List Frame) where
   abbrev at : Frame → Conf

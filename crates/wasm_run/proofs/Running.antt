@@ -55,7 +55,8 @@ moved m cap c t made more higher r count high e = record {
   most = high ∙ ap (λ n. max n (frames t)) r.most;
 }
 
-read_i32 : (o : Option ConstValue) (w : ℕ) → option_and_then i32_of o ≡ Some w → o ≡ Some (I32 w)
+-- a word that is read stands there
+pub read_i32 : (o : Option ConstValue) (w : ℕ) → option_and_then i32_of o ≡ Some w → o ≡ Some (I32 w)
 read_i32 None w e = cc
 read_i32 (Some (I32 n)) w e = let h : n ≡ w = cc in ap (λ k. Some (I32 k)) h
 read_i32 (Some (I64 n)) w e = cc

@@ -1,52 +1,36 @@
 -- A machine at the start of a run of `main`.
-use Rattle.std.proofs.Common.{◌≡◌, ℕ, suc, List, [], ◌∷◌, ◌++◌, map, reverse, take, length, Option, Some, None, Bool, true, false, refl, ap, sym, ◌∙◌}
-use Rattle.std.specs.Prelude.{slice_get, is_some, if◌then◌else◌, ◌&&◌}
+use Rattle.std.proofs.Common.{◌≡◌, ℕ, List, [], ◌++◌, map, reverse, take, length, Option, Some, None, Bool, true, false, ap, sym, ◌∙◌}
+use Rattle.std.specs.Prelude.{slice_get, is_some, if◌then◌else◌}
 use Rattle.std.specs.Option.{option_and_then}
+use Rattle.std.proofs.lemmas.Option.{same_Some}
 use Rattle.wasm_core.specs.declared.types.FuncType.{FuncType}
 use Rattle.wasm_core.specs.declared.types.GlobalDef.{GlobalDef}
 use Rattle.wasm_core.specs.declared.types.ValType.{ValType}
 use Rattle.wasm_core.specs.declared.types.ConstValue.{ConstValue}
-use Rattle.wasm_core.specs.declared.elements.Segment.{Segment}
 use Rattle.wasm_core.specs.declared.entries.Entry.TheVariants.{Main}
 use Rattle.wasm_core.specs.declared.instrs.Instr.{Instr}
 use Rattle.wasm_core.specs.declared.instrs.Body.{Body}
 use Rattle.wasm_core.specs.Parts.{Parts}
 use Rattle.wasm_core.specs.Memory.{zeroed}
-use Rattle.wasm_core.specs.Instance.{Func, func_of, least, segments_fit, segment_fits, all_fit, zero_of}
+use Rattle.wasm_core.specs.Instance.{Func, func_of, least, segments_fit, zero_of}
 use Rattle.wasm_core.specs.Entries.{index_of}
 use Rattle.wasm_core.specs.MachineStep.{State, Store, At}
-use Rattle.wasm_core.specs.MachineRun.{first_past}
 use Rattle.wasm_core.specs.ModuleTyping.{IsValid}
 use Rattle.wasm_core.specs.Runs.{main_start, start, start_at, first_store}
 use Rattle.wasm_core.proofs.Functions.{found_at}
+use Rattle.wasm_core.proofs.Small.{no}
 use Rattle.wasm_core.proofs.Starting.{main_there}
 use Rattle.wasm_run.specs.Shape.{Shape}
 use Rattle.wasm_run.specs.View.{frame_at}
 use Rattle.wasm_run.specs.Programs.{code_of, code_in}
 use Rattle.wasm_run.specs.Threads.{state_of, store_in, frame_in}
 use Rattle.wasm_run.specs.declared.thread.Thread.{Thread}
-use Rattle.wasm_run.proofs.Bodies.{inj}
-
-no : {A B : Type 0} {x : A} → ◌≡◌ {A = Option A} None (Some x) → B
-no h = cc
-
-some_none : {A B : Type 0} {x : A} → ◌≡◌ {A = Option A} (Some x) None → B
-some_none h = cc
-
--- where no segment is past the table, all fit
-pub all_held : (n size : ℕ) (segments : List Segment) → first_past n size segments ≡ None → all_fit size segments ≡ true
-all_held n size [] e = refl
-all_held n size (s ∷ segments) e = by (segment_fits size s) refl e (λ h. all_held (suc n) size segments h)
-  where
-    by : (b : Bool) → segment_fits size s ≡ b → (if b then first_past (suc n) size segments else Some n) ≡ None → (first_past (suc n) size segments ≡ None → all_fit size segments ≡ true) → (segment_fits size s && all_fit size segments) ≡ true
-    by true h e go = ap (λ (b : Bool). b && all_fit size segments) h ∙ go e
-    by false h e go = some_none e
 
 pub main_found : (m : Parts) → IsValid m → (f : ℕ) → index_of Main m ≡ Some f → (g : Func) × (func_of m f ≡ Some g) × (g.type.params ≡ []) × (g.type.result ≡ None)
 main_found m valid f e =
     let h = main_there m f e in
     let (x, t) = found_at m valid f h.index h.is_func in
-    let same : h.type ≡ x.func.type = inj (sym h.is_type ∙ t) in
+    let same : h.type ≡ x.func.type = same_Some _ _ (sym h.is_type ∙ t) in
     (x.func, x.is, ap (λ (y : FuncType). y.params) (sym same) ∙ h.no_params, ap (λ (y : FuncType). y.result) (sym same) ∙ h.no_result)
 
 pub main_starts : (m : Parts) (f : ℕ) (g : Func) → segments_fit m ≡ true → index_of Main m ≡ Some f → func_of m f ≡ Some g → main_start m ≡ Some (start m g)
@@ -59,7 +43,7 @@ module _ (m : Parts) (g : Func) where
   code_2 : (t : Option FuncType) (b : Option Body) → option_and_then (λ (t : FuncType). option_and_then (λ (b : Body). Some (record { type = t; body = b })) b) t ≡ Some g → code_in b ≡ g.body.code
   code_2 None b e = no e
   code_2 (Some t) None e = no e
-  code_2 (Some t) (Some b) e = ap (λ (x : Func). x.body.code) (inj e)
+  code_2 (Some t) (Some b) e = ap (λ (x : Func). x.body.code) (same_Some _ _ e)
 
   code_1 : (a : Option ℕ) (b : Option Body) → option_and_then (λ index. option_and_then (λ (t : FuncType). option_and_then (λ (b : Body). Some (record { type = t; body = b })) b) (slice_get m.types index)) a ≡ Some g → code_in b ≡ g.body.code
   code_1 None b e = no e

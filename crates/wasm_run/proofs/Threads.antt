@@ -3,7 +3,7 @@ use Rattle.std.proofs.Common.{◌≡◌, ℕ, zero, suc, ◌+◌, List, [], ◌�
 use Rattle.std.proofs.lemmas.Bool.{cases_lt}
 use Rattle.std.specs.Prelude.{slice_get, is_some, ◌&&◌, nat_le, if◌then◌else◌, IfSome}
 use Rattle.std.specs.Option.{option_map}
-use Rattle.std.proofs.lemmas.Option.{slice_get-map}
+use Rattle.std.proofs.lemmas.Option.{slice_get-map, same_Some}
 use Rattle.std.proofs.lemmas.List.{drop-map, drop-drop, drop_all}
 use Rattle.wasm_core.specs.declared.types.ConstValue.{ConstValue}
 use Rattle.wasm_core.specs.declared.types.ValType.{ValType}
@@ -20,7 +20,7 @@ use Rattle.wasm_run.specs.View.{label_of}
 use Rattle.wasm_run.specs.Programs.{code_of}
 use Rattle.wasm_run.specs.Threads.{frame_in, conf_of, acting, rest_of}
 use Rattle.wasm_run.specs.declared.thread.Thread.{Thread}
-use Rattle.wasm_run.proofs.Bodies.{drop_here, inj}
+use Rattle.wasm_run.proofs.Bodies.{drop_here}
 
 cut_more : (k : ℕ) (xs r : List ConstValue) (x : ConstValue) → drop k xs ≡ x ∷ r → take (suc k) xs ≡ take k xs ++ x ∷ []
 cut_more zero [] r x e = cc
@@ -54,9 +54,9 @@ module _ (m : Parts) (store : Store) (callers : List Frame) where
 
       taken : (k : Open) (b : Bool) (vals : List ConstValue) → keeping b vals (leave_with l s k) ≡ Some s' → taking b vals (λ top. Some
           (At (record { store = store; current = record (frame_in m s) { labels = drop (l + 1) (map f s.labels); operands = top ++ k.below; rest = drop k.target (code_of m s.func) }; callers = callers }))) ≡ Some (At (conf_at s'))
-      taken k false vals h = moved k [] (inj h)
+      taken k false vals h = moved k [] (same_Some _ _ h)
       taken k true [] h = cc
-      taken k true (x ∷ vals) h = moved k (x ∷ []) (inj h)
+      taken k true (x ∷ vals) h = moved k (x ∷ []) (same_Some _ _ h)
 
       go : (o : Option Open) → leave_to l s o ≡ Some s' → jump (conf_at s) l s.vals (option_map f o) ≡ Some (At (conf_at s'))
       go None h = cc
@@ -96,13 +96,13 @@ module _ (m : Parts) (f : ℕ) (g : Func) (is : func_of m f ≡ Some g) (of : Fu
   -- a called function's frame as it begins, where its type and its further locals were read
   begins : frame_in m (begun f of others vals) ≡ frame_of g vals
   begins =
-      ap (λ (t : FuncType). frame_in m (begun f t others vals)) (sym (inj ht))
-      ∙ ap (λ (x : List ValType). frame_in m (begun f g.type x vals)) (sym (inj hl))
+      ap (λ (t : FuncType). frame_in m (begun f t others vals)) (sym (same_Some _ _ ht))
+      ∙ ap (λ (x : List ValType). frame_in m (begun f g.type x vals)) (sym (same_Some _ _ hl))
       ∙ ap (λ code. frame_at code (begun f g.type g.body.locals vals)) (code_is m g f is)
 
   -- what is left of the operands
   left : drop (length of.params) vals ≡ drop (length g.type.params) vals
-  left = ap (λ (t : FuncType). drop (length t.params) vals) (sym (inj ht))
+  left = ap (λ (t : FuncType). drop (length t.params) vals) (sym (same_Some _ _ ht))
 
 -- a function is called
 pub call_some : (m : Parts) (store : Store) (cs : List Shape) (s : Shape) (f : ℕ) (o : Option Func) → func_of m f ≡ o → is_some o ≡ true →

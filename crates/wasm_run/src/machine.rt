@@ -240,7 +240,7 @@ impl<'m> Machine<'m> {
     }
 
     /// A machine at the start of a run of `main`, where the entries are there.
-    #[tactic(auto, using(crate::proofs::Starts::all_held))]
+    #[tactic(auto, using(wasm_core::proofs::Refusals::all_held))]
     fn with_entries(
         alloc: Global,
         valid: &'m Valid,

@@ -1,14 +1,14 @@
 -- Where a module first fails, against its typing.
 use Rattle.std.proofs.Common.{◌≡◌, ℕ, zero, suc, ◌+◌, ◌<◌, ◌≤◌, ◌++◌, List, [], ◌∷◌, Some, None, Option, false, ap, sym, ◌∙◌, subst, length, get_or, arith}
 use Rattle.std.specs.Prelude.{slice_get, IfOk, Result, Ok, Err}
-use Rattle.std.proofs.lemmas.Option.{slice_get-get_or, slice_get_within}
+use Rattle.std.proofs.lemmas.Option.{slice_get-get_or, slice_get_within, same_Some}
 use Rattle.wasm_core.specs.declared.types.FuncType.{FuncType}
 use Rattle.wasm_core.specs.declared.instrs.Body.{Body}
 use Rattle.wasm_core.specs.Parts.{Parts}
 use Rattle.wasm_core.specs.ModuleTyping.{TypedBody, TypedFunc, Functions, Codes, AllSound, IsValid, results_of}
 use Rattle.wasm_core.specs.ModuleCondition.{All, IsBody, IsClosed, IsModule}
 use Rattle.wasm_core.specs.FirstFault.{FirstFault, outside, inside, TypedBelow, counted}
-use Rattle.wasm_core.proofs.Small.{inj, no}
+use Rattle.wasm_core.proofs.Small.{no}
 use Rattle.wasm_validate.specs.Verdicts.{SaysOfBody, SaysOfFunc, SaysOutside}
 use Rattle.wasm_validate.proofs.Reading.{here, before_next}
 
@@ -28,7 +28,7 @@ body_there m bs func sound eb lt = let e : length m.funcs ≡ length m.bodies = 
 -- each body is closed
 closed_at : (bs : List Body) (f : ℕ) (b : Body) → All IsBody bs → slice_get bs f ≡ Some b → IsClosed (false ∷ []) b.code
 closed_at [] f b a e = no e
-closed_at (c ∷ bs) zero b (p, a) e = subst (λ (x : Body). IsClosed (false ∷ []) x.code) (inj e) p.1
+closed_at (c ∷ bs) zero b (p, a) e = subst (λ (x : Body). IsClosed (false ∷ []) x.code) (same_Some _ _ e) p.1
 closed_at (c ∷ bs) (suc f) b (p, a) e = closed_at bs f b a e
 
 pub body_closed : (m : Parts) (bs : List Body) (func : ℕ) (b : Body) → IsModule m → bs ≡ m.bodies → func < length bs → b ≡ get_or bs func b → IsClosed (false ∷ []) b.code
@@ -59,7 +59,7 @@ typed_next m func below (index, type, b, hf, ht, hb, s) f i d lt ef ed =
     before_next (λ k (j : ℕ). (x : Body) → slice_get m.bodies k ≡ Some x → TypedFunc m j x) m.funcs func index (λ k j l ej x ex. below k j x l ej ex) hf (λ x ex. record {
       type = type;
       found = ht;
-      typed = subst (λ (y : Body). TypedBody m (type.params ++ y.locals) (results_of type) y.code) (inj (sym hb ∙ ex)) s;
+      typed = subst (λ (y : Body). TypedBody m (type.params ++ y.locals) (results_of type) y.code) (same_Some _ _ (sym hb ∙ ex)) s;
     }) f i lt ef d ed
 
 pub all_typed : (m : Parts) (func : ℕ) → AllSound m → TypedBelow m func → length m.funcs ≤ func → IsValid m

@@ -3,17 +3,16 @@ use Rattle.std.proofs.Common.{◌≡◌, ℕ, zero, suc, ◌-◌, ◌<◌, List,
 use Rattle.std.specs.Prelude.{slice_get}
 use Rattle.std.specs.Option.{option_to_list}
 use Rattle.std.proofs.lemmas.List.{length-reverse, get_or-reverse}
-use Rattle.std.proofs.lemmas.Option.{slice_get-get_or}
+use Rattle.std.proofs.lemmas.Option.{slice_get-get_or, same_Some}
 use Rattle.wasm_core.specs.ModuleTyping.{OperandTypes}
 use Rattle.wasm_core.specs.Pass.{labels_of}
-use Rattle.wasm_core.proofs.Small.{inj}
 use Rattle.wasm_validate.specs.declared.checker.Control.{Control}
 use Rattle.wasm_validate.specs.Checkers.{ctl_of}
 
 module _ (own : OperandTypes) where
   of_block : (cs : List Control) (i : ℕ) (c : Control) → slice_get cs i ≡ Some c → slice_get (labels_of own (map ctl_of cs)) i ≡ Some (option_to_list c.label)
   of_block [] i c e = cc
-  of_block (d ∷ cs) zero c e = ap (λ (x : Control). Some (option_to_list x.label)) (inj e)
+  of_block (d ∷ cs) zero c e = ap (λ (x : Control). Some (option_to_list x.label)) (same_Some _ _ e)
   of_block (d ∷ cs) (suc i) c e = of_block cs i c e
 
   of_own : (cs : List Control) (i : ℕ) → i ≡ length cs → slice_get (labels_of own (map ctl_of cs)) i ≡ Some own

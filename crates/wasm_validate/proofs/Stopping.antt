@@ -3,13 +3,13 @@ use Rattle.std.proofs.Common.{◌≡◌, ℕ, List, [], ◌∷◌, ◌++◌, Opt
 use Rattle.std.specs.Prelude.{◌⊎◌}
 use Rattle.std.proofs.lemmas.List.{append-nil, take-append-drop, drop_all, drop_more}
 use Rattle.std.proofs.Math.Seq.{take-append_seam}
+use Rattle.std.proofs.lemmas.Option.{same_Some}
 use Rattle.wasm_core.specs.declared.instrs.Instr.{Instr}
 use Rattle.wasm_core.specs.Parts.{Parts}
 use Rattle.wasm_core.specs.ModuleTyping.{OperandTypes, TypedBody}
 use Rattle.wasm_core.specs.ModuleCondition.{IsClosed}
 use Rattle.wasm_core.specs.FirstFault.{CanGoOn, IsFaultAt}
 use Rattle.wasm_core.specs.Pass.{Place, Check, More, Finished, check, outset, one, run}
-use Rattle.wasm_core.proofs.Small.{inj}
 use Rattle.wasm_core.proofs.Passing.{run-append, run_typed, typed_run, viable_run, run_viable}
 use Rattle.wasm_core.proofs.FaultUnique.{front_goes_on}
 use Rattle.wasm_core.proofs.Judged.{bodies_are_judged}
@@ -67,7 +67,7 @@ module _ (m : Parts) (ls rs : OperandTypes) where
   closed_ends code b c e = ⊎_elim typed faulty (bodies_are_judged m ls rs code c)
     where
       typed : TypedBody m ls rs code → ⊥
-      typed t = let q : Finished ≡ More b = inj (sym (typed_run m ls rs code t) ∙ e) in cc
+      typed t = let q : Finished ≡ More b = same_Some _ _ (sym (typed_run m ls rs code t) ∙ e) in cc
 
       faulty : ((p : ℕ) × IsFaultAt m ls rs code p) → ⊥
       faulty (p, f) =

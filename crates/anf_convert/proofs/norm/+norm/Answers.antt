@@ -5,7 +5,7 @@ use Rattle.box_terms.specs.BoxLists.{arms_of, bodies_of, rargs_of}
 use Rattle.box_terms.specs.BoxView.{box_of}
 use Rattle.anf_convert.specs.ToAnf.{norm}
 use Rattle.anf_convert.specs.Writing.{number_of}
-use Rattle.anf_convert.proofs.Maps.{arm_is_less, body_is_less}
+use Rattle.box_terms.proofs.Items.{arm_is_less, body_is_less}
 use Rattle.anf_convert.proofs.Steps.{argument_written, fix_res}
 use Rattle.anf_convert.proofs.norm.+norm.Goals as goal
 

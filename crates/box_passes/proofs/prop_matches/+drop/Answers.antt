@@ -7,7 +7,7 @@ use Rattle.lambda_box.specs.OrdinaryForm.{family_of}
 use Rattle.lambda_box.specs.OrdinaryForm.{propositional_of}
 use Rattle.box_passes.specs.PropMatch.{drop_matches}
 use Rattle.box_passes.proofs.Dropping.{case_stays, case_several, fix_dropped}
-use Rattle.box_passes.proofs.Maps.{arm_is_less, body_is_less}
+use Rattle.box_terms.proofs.Items.{arm_is_less, body_is_less}
 use Rattle.box_passes.proofs.prop_matches.+drop.Goals as goal
 
 pub dropped-made-requires-then-arms-gt1 : goal.dropped-made-requires-then-arms-gt1

@@ -7,7 +7,7 @@ use Rattle.box_terms.specs.BoxView.{box_of}
 use Rattle.lambda_box.specs.declared.fault.PassFault.TheVariants.{TooDeep}
 use Rattle.box_passes.specs.Heads.{head, spare}
 use Rattle.box_passes.specs.Maps.{map_branch, map_def}
-use Rattle.box_passes.proofs.Maps.{arm_is_less, body_is_less}
+use Rattle.box_terms.proofs.Items.{arm_is_less, body_is_less}
 use Rattle.box_passes.proofs.Heading.{case_heads, fix_heads, branches_deep, defs_deep, arm_deep, def_deep}
 use Rattle.box_passes.proofs.saturation.+saturate.Goals as goal
 

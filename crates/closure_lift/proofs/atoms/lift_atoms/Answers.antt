@@ -1,7 +1,7 @@
 use Rattle.std.proofs.Common.{arith, ◌≡◌, ◌≤◌, length, take, map, reverse, ap, ◌∙◌}
 use Rattle.closure_lift.specs.Lift.{atom}
 use Rattle.std.proofs.lemmas.List.{take_all}
-use Rattle.anf_convert.proofs.Maps.{reverse_map}
+use Rattle.box_terms.proofs.Items.{reverse_map}
 use Rattle.closure_lift.proofs.atoms.lift_atoms.Goals as goal
 
 pub returns-clause-is : goal.returns-clause-is

@@ -3,7 +3,8 @@ use Rattle.std.proofs.lemmas.Grind.{common_steps}
 use Rattle.closure_lift.specs.LiftedView.{bounds_of}
 use Rattle.closure_lift.specs.Lifting.{closure_code}
 use Rattle.closure_lift.specs.declared.program.LiftedOp.TheVariants as op
-use Rattle.closure_lift.proofs.Making.{bounds_append, closure_made}
+use Rattle.closure_lift.proofs.Counted.{bounds_append}
+use Rattle.closure_lift.proofs.Making.{closure_made}
 use Rattle.closure_lift.proofs.atoms.make_closure.Goals as goal
 
 pub returns-clause-code : goal.returns-clause-code

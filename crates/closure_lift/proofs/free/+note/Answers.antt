@@ -3,11 +3,12 @@ use Rattle.anf_convert.specs.Anf.{LamOp, OpIs, block_of, tail_of, def_count}
 use Rattle.anf_convert.specs.AnfView.{seen}
 use Rattle.anf_convert.specs.AnfWeight.{binding_weight, block_weight, branches_weight, defs_weight}
 use Rattle.anf_convert.specs.Captured.{captured}
+use Rattle.anf_convert.proofs.ViewLists.{defs_of_count}
 use Rattle.closure_lift.specs.FreeVariables.{free_block, free_defs, at_first, notes_block, notes_defs}
 use Rattle.closure_lift.specs.Noting.{free_bound, notes_bound}
 use Rattle.closure_lift.proofs.Noted.{noted, names_after, names_before}
 use Rattle.closure_lift.proofs.Lighter.{op_lighter, tail_lighter, arm_lighter, def_weight, def_lighter}
-use Rattle.closure_lift.proofs.Noting.{part_more, free_here, notes_here, room, count_defs}
+use Rattle.closure_lift.proofs.Noting.{part_more, free_here, notes_here, room}
 use Rattle.closure_lift.proofs.free.+note.Goals as goal
 
 pub note_block-note_op-requires : goal.note_block-note_op-requires
@@ -81,7 +82,7 @@ note_op-returns-in_ok-free-in-Fix-clause-names t c =
     let m = c.in_ok-sum_of-in-Fix.field-0 in
     let xs = c.in_ok-free-in-Fix.free in
     let a : c.in_ok-count-in-Fix.count ≡ length c.as_slice.result.now = search rules in
-    let k : m ≡ def_count ds + n = c.in_ok-sum_of-in-Fix.ensures.is ∙ ap (λ j. j + n) (a ∙ sym (count_defs c.as_slice.result.now) ∙ ap def_count c.as_slice.ensures.is) in
+    let k : m ≡ def_count ds + n = c.in_ok-sum_of-in-Fix.ensures.is ∙ ap (λ j. j + n) (a ∙ sym (defs_of_count c.as_slice.result.now) ∙ ap def_count c.as_slice.ensures.is) in
     let q : c.len-start-in-Fix.result ≡ length names = search rules in
     let f : xs ≡ captured n (free_defs m ds) = c.in_ok-free-in-Fix.ensures.is ∙ ap (captured n) (names_after names (free_defs m ds) c.note_defs.new.names.items c.len-start-in-Fix.result q c.in_ok-note_defs-in-Fix.ensures.names) in
     c.in_ok-free-in-Fix.ensures.names ∙ ap (λ z. z ++ xs) (names_before names (free_defs m ds) c.note_defs.new.names.items c.len-start-in-Fix.result q c.in_ok-note_defs-in-Fix.ensures.names)
@@ -96,7 +97,7 @@ note_op-returns-in_ok-free-in-Fix-clause-notes t c =
     let m = c.in_ok-sum_of-in-Fix.field-0 in
     let xs = c.in_ok-free-in-Fix.free in
     let a : count ≡ length c.as_slice.result.now = search rules in
-    let d : count ≡ def_count ds = a ∙ sym (count_defs c.as_slice.result.now) ∙ ap def_count c.as_slice.ensures.is in
+    let d : count ≡ def_count ds = a ∙ sym (defs_of_count c.as_slice.result.now) ∙ ap def_count c.as_slice.ensures.is in
     let k : m ≡ def_count ds + n = c.in_ok-sum_of-in-Fix.ensures.is ∙ ap (λ j. j + n) d in
     let p : c.len-place-in-Fix.result ≡ length old = search rules in
     let q : c.len-start-in-Fix.result ≡ length c.args.names.now.items = search rules in

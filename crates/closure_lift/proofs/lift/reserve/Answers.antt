@@ -4,7 +4,8 @@ use Rattle.closure_lift.specs.Lifted.{Fn}
 use Rattle.closure_lift.specs.LiftedView.{functions_of}
 use Rattle.closure_lift.specs.Lifting.{blanks}
 use Rattle.closure_lift.specs.declared.program.Function.{Function}
-use Rattle.closure_lift.proofs.Making.{functions_append, blanks_more}
+use Rattle.closure_lift.proofs.Counted.{functions_append}
+use Rattle.closure_lift.proofs.Making.{blanks_more}
 use Rattle.closure_lift.proofs.lift.reserve.Goals as goal
 
 pub loop-i-preserved : goal.loop-i-preserved

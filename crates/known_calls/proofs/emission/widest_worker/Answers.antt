@@ -1,9 +1,9 @@
 use Rattle.std.proofs.Common.{◌+◌, List, ap, drop, refl, sym, ◌∙◌}
 use Rattle.std.specs.Prelude.{max}
 use Rattle.closure_lift.specs.declared.program.Function.{Function}
+use Rattle.closure_lift.proofs.Noting.{next_of}
 use Rattle.wasm_emit.specs.Pushed.{function_in}
 use Rattle.wasm_emit.proofs.Listed.{functions_in}
-use Rattle.wasm_emit.proofs.Pushing.{next_of}
 use Rattle.known_calls.specs.KnownModule.{widest_worker}
 use Rattle.known_calls.proofs.KnownEmitting.{widest_more}
 use Rattle.known_calls.proofs.emission.widest_worker.Goals as goal

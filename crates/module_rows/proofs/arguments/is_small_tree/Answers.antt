@@ -1,5 +1,5 @@
 use Rattle.std.proofs.Common.{◌<◌, length, slice_index_or, arith}
-use Rattle.module_rows.proofs.Heaps.{forest_more, small_more}
+use Rattle.module_rows.proofs.Nodes.{forest_more, small_more}
 use Rattle.module_rows.proofs.arguments.is_small_tree.Goals as goal
 
 pub loop-i-preserved : goal.loop-i-preserved

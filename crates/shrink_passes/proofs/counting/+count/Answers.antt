@@ -1,7 +1,7 @@
 use Rattle.std.proofs.Common.{rules, arith, ◌+◌, ◌<◌, ◌≤◌, length, subst}
 use Rattle.trees.specs.Measures.{depth, depth_trees}
 use Rattle.box_terms.specs.BoxLists.{arms_of, bodies_of}
-use Rattle.box_passes.proofs.Maps.{arm_is_less, body_is_less}
+use Rattle.box_terms.proofs.Items.{arm_is_less, body_is_less}
 use Rattle.shrink_passes.proofs.counting.+count.Goals as goal
 
 pub count_branches-count-requires : goal.count_branches-count-requires

@@ -5,7 +5,7 @@ use Rattle.trees.specs.Measures.{depth, depth_trees}
 use Rattle.box_terms.specs.BoxSyntax.{BCase, BFix}
 use Rattle.box_terms.specs.BoxLists.{arms_of, bodies_of, rargs_of}
 use Rattle.box_terms.specs.BoxView.{box_of}
-use Rattle.box_passes.proofs.Maps.{arm_is_less, body_is_less}
+use Rattle.box_terms.proofs.Items.{arm_is_less, body_is_less}
 use Rattle.shrink_passes.specs.Filled.{filled, filled_terms}
 use Rattle.shrink_passes.proofs.Fillings.{case_filled, fix_filled, arm_filled_is_less, body_filled_is_less}
 use Rattle.shrink_passes.proofs.filling.+fill.Goals as goal

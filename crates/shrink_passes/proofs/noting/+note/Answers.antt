@@ -1,9 +1,9 @@
-use Rattle.std.proofs.Common.{rules, arith, ◌+◌, ◌<◌, ◌≤◌, ◌&&◌, length, [], Some, None, subst, ap, ◌∙◌, sym}
+use Rattle.std.proofs.Common.{rules, arith, ◌<◌, ◌≤◌, ◌&&◌, length, Some, subst, ap, ◌∙◌, sym}
 use Rattle.std.specs.Prelude.{nat_eq}
 use Rattle.std.specs.HashMap.{get}
 use Rattle.trees.specs.Measures.{depth, depth_trees}
 use Rattle.box_terms.specs.BoxLists.{arms_of, bodies_of}
-use Rattle.box_passes.proofs.Maps.{arm_is_less, body_is_less}
+use Rattle.box_terms.proofs.Items.{arm_is_less, body_is_less}
 use Rattle.shrink_passes.specs.DeadPlaces.{is_place, is_reached, noted}
 use Rattle.shrink_passes.proofs.Flagging.{and_true, and_more, on_ok_map}
 use Rattle.shrink_passes.proofs.Noted.{fits_noted}

@@ -5,7 +5,7 @@ use Rattle.trees.specs.Measures.{depth, depth_trees}
 use Rattle.box_terms.specs.BoxSyntax.{BCase, BFix}
 use Rattle.box_terms.specs.BoxLists.{arms_of, bodies_of, rargs_of}
 use Rattle.box_terms.specs.BoxView.{box_of}
-use Rattle.box_passes.proofs.Maps.{arm_is_less, body_is_less}
+use Rattle.box_terms.proofs.Items.{arm_is_less, body_is_less}
 use Rattle.shrink_passes.specs.DeadPlaces.{is_place, spine}
 use Rattle.shrink_passes.specs.Pruned.{pruned}
 use Rattle.shrink_passes.proofs.Flagging.{if_ok_map}

@@ -1,7 +1,7 @@
 use Rattle.std.proofs.Common.{rules, arith, ◌+◌, ◌<◌, ◌≤◌, ◌&&◌, length, subst, ap, ◌∙◌, sym}
 use Rattle.trees.specs.Measures.{depth, depth_trees}
 use Rattle.box_terms.specs.BoxLists.{arms_of, bodies_of}
-use Rattle.box_passes.proofs.Maps.{arm_is_less, body_is_less}
+use Rattle.box_terms.proofs.Items.{arm_is_less, body_is_less}
 use Rattle.shrink_passes.specs.DeadPlaces.{flag_at}
 use Rattle.shrink_passes.proofs.Flagging.{and_true}
 use Rattle.shrink_passes.proofs.UnusedPlaces.{closed_unnamed}

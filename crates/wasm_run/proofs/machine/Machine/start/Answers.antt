@@ -1,6 +1,7 @@
 use Rattle.std.proofs.Common.{◌≡◌, ◌∙◌, List, [], None, refl, map, sym, ap, subst, false, true}
 use Rattle.std.specs.Prelude.{is_some}
 use Rattle.std.specs.Option.{option_map}
+use Rattle.std.proofs.lemmas.Option.{same_Some}
 use Rattle.wasm_core.specs.declared.types.ConstValue.{ConstValue}
 use Rattle.wasm_core.specs.declared.entries.Entry.TheVariants.{Result, Status, Heap, Args}
 use Rattle.wasm_core.specs.Parts.{Parts}
@@ -17,7 +18,6 @@ use Rattle.wasm_run.specs.Machines.{Reached}
 use Rattle.wasm_run.specs.Standing.{frames}
 use Rattle.wasm_run.specs.Threads.{state_of}
 use Rattle.wasm_run.specs.declared.thread.Thread.{Thread}
-use Rattle.wasm_run.proofs.Bodies.{inj}
 use Rattle.wasm_run.proofs.Starts.{main_found, main_starts, fresh, first_is}
 use Rattle.wasm_run.proofs.machine.Machine.start.Goals as goal
 
@@ -32,7 +32,7 @@ invariant_of-result c =
     let m = c.args.m.now in let f = c.args.entries.main in
     let pe = c.in_ok-program.ensures.is in
     let (g, is, params, none) = main_found m c.requires.valid f c.requires.entries.main in
-    let lo = inj (sym c.locals.ensures.is ∙ ap (λ (x : Parts). locals_at x f) pe ∙ ap (option_map (λ (g : Func). g.body.locals)) is) in
+    let lo = same_Some _ _ (sym c.locals.ensures.is ∙ ap (λ (x : Parts). locals_at x f) pe ∙ ap (option_map (λ (g : Func). g.body.locals)) is) in
     let t : Thread = record { current = c.new-current.result; callers = c.new-callers.result; pages = c.least_of-pages.result; memory = c.in_ok-memory.memory; globals = c.in_ok-globals.globals; refused = false; by_choice = false } in
     let cur = c.new-current.ensures.is ∙ ap (λ (ls : List ConstValue). record { func = f; keeps = false; at = 0; locals = ls; vals = []; labels = [] }) (c.in_ok-locals.ensures.is ∙ ap (map zero_of) lo) in
     let size = c.least_of-pages.ensures.is ∙ ap least c.memory.ensures.is in
@@ -54,7 +54,7 @@ returns c =
     let m = c.args.m.now in let f = c.args.entries.main in
     let pe = c.in_ok-program.ensures.is in
     let (g, is, params, none) = main_found m c.requires.valid f c.requires.entries.main in
-    let lo = inj (sym c.locals.ensures.is ∙ ap (λ (x : Parts). locals_at x f) pe ∙ ap (option_map (λ (g : Func). g.body.locals)) is) in
+    let lo = same_Some _ _ (sym c.locals.ensures.is ∙ ap (λ (x : Parts). locals_at x f) pe ∙ ap (option_map (λ (g : Func). g.body.locals)) is) in
     let t : Thread = record { current = c.new-current.result; callers = c.new-callers.result; pages = c.least_of-pages.result; memory = c.in_ok-memory.memory; globals = c.in_ok-globals.globals; refused = false; by_choice = false } in
     let cur = c.new-current.ensures.is ∙ ap (λ (ls : List ConstValue). record { func = f; keeps = false; at = 0; locals = ls; vals = []; labels = [] }) (c.in_ok-locals.ensures.is ∙ ap (map zero_of) lo) in
     let size = c.least_of-pages.ensures.is ∙ ap least c.memory.ensures.is in

@@ -1,20 +1,18 @@
--- Functions on the items of lists, and the items of a term's lists.
+-- Lists: the items of a mapped list from its end, and how deep the items of a term's lists are.
 use Rattle.std.proofs.Common.{◌≡◌, ◌≤◌, ◌<◌, ℕ, zero, suc, List, [], ◌∷◌, ◌++◌, length, map, reverse, get_or, refl, sym, ap, ◌∙◌, subst, arith}
-use Rattle.std.proofs.lemmas.List.{reverse-append}
+use Rattle.std.proofs.lemmas.List.{map-append, reverse-append}
 use Rattle.trees.specs.Measures.{depth, depth_trees}
 use Rattle.box_terms.specs.BoxLists.{arms_of, bodies_of}
 use Rattle.box_terms.specs.declared.term.BoxBranch.{BoxBranch}
 use Rattle.box_terms.specs.declared.term.BoxDef.{BoxDef}
 
-pub map_more : {A B : Type 0} (f : A → B) (xs ys : List A) → map f (xs ++ ys) ≡ map f xs ++ map f ys
-map_more f [] ys = refl
-map_more f (x ∷ xs) ys = ap (◌∷◌ (f x)) (map_more f xs ys)
-
 pub reverse_map : {A B : Type 0} (f : A → B) (xs : List A) → reverse (map f xs) ≡ map f (reverse xs)
 reverse_map f [] = refl
 reverse_map f (x ∷ xs) =
-    reverse-append (f x ∷ []) (map f xs) ∙ ap (λ ys. ys ++ (f x ∷ [])) (reverse_map f xs) ∙ sym (map_more f (reverse xs) (x ∷ []))
+    reverse-append (f x ∷ []) (map f xs) ∙ ap (λ ys. ys ++ (f x ∷ [])) (reverse_map f xs) ∙ sym (map-append f (reverse xs) (x ∷ []))
     ∙ sym (ap (map f) (reverse-append (x ∷ []) xs))
+
+-- no branch and no definition is deeper than the list
 
 pub arm_is_less : (bs : List BoxBranch) (i : ℕ) (b : BoxBranch) → i < length bs → b ≡ get_or bs i b → depth b.body ≤ depth_trees (arms_of bs)
 arm_is_less [] i b l e = absurd (omega arith)

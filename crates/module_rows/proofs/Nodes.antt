@@ -1,19 +1,9 @@
--- Where blocks may begin, and trees node by node.
-use Rattle.std.proofs.Common.{◌≡◌, ℕ, zero, suc, ◌+◌, ◌-◌, ◌*◌, ◌/◌, ◌%◌, ◌<◌, ◌≤◌, List, ◌∷◌, drop, length, Some, sym, subst, arith}
+-- Trees node by node.
+use Rattle.std.proofs.Common.{◌≡◌, ℕ, zero, suc, ◌+◌, ◌-◌, ◌<◌, List, ◌∷◌, drop, length, sym, subst, arith}
 use Rattle.std.specs.Prelude.{get_or}
 use Rattle.std.proofs.lemmas.List.{drop_more}
-use Rattle.wasm_core.specs.declared.entries.Entry.TheVariants.{Heap}
-use Rattle.wasm_core.specs.Parts.{Parts}
-use Rattle.wasm_core.specs.MachineStep.{Store}
-use Rattle.wasm_core.specs.Answer.{global_of}
 use Rattle.data_trees.specs.Preorder.{IsForest}
-use Rattle.mem_value.specs.Storing.{HasHeap, IsSmallNode, IsSmallData}
-
-pub heap_is : (m : Parts) (s : Store) (heap : ℕ) → global_of Heap m s ≡ Some heap → heap % 4 ≡ 0 → 0 < heap → heap ≤ length s.memory → HasHeap m s
-heap_is m s heap e quarter there inside = record { heap = heap; is = e; quarter = heap / 4; aligned = whole heap quarter; there = there; inside = inside }
-  where
-    whole : (n : ℕ) → n % 4 ≡ 0 → n ≡ 4 * (n / 4)
-    whole n e = omega (arith, e)
+use Rattle.mem_value.specs.Storing.{IsSmallNode, IsSmallData}
 
 -- one node less to come
 pub forest_more : (nodes : List (ℕ × ℕ)) (i w : ℕ) (d : ℕ × ℕ) → i < length nodes → 0 < w → IsForest (w - 1 + (get_or nodes i d).1) (drop (i + 1) nodes) → IsForest w (drop i nodes)
