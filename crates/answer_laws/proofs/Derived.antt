@@ -4,7 +4,7 @@ use Rattle.std.proofs.lemmas.Option.{slice_get-map}
 use Rattle.pc_terms.specs.declared.leaf.FamilyId.{FamilyId}
 use Rattle.pc_terms.specs.Syntax.{Term}
 use Rattle.calculus_rules.specs.declared.declaration.Kept.TheVariants.{Block as Whole}
-use Rattle.calculus_rules.specs.Environment.{Env, Has, here, there}
+use Rattle.calculus_rules.specs.Environment.{Env}
 use Rattle.rule_laws.specs.Declarations.{plain_family, plain_constructor, plain_given, IsCheckedEnvironment}
 use Rattle.dump_reader.specs.declared.declaration.RawFamily.{RawFamily}
 use Rattle.dump_reader.specs.declared.declaration.RawDecl.{RawDecl}
@@ -14,6 +14,7 @@ use Rattle.inductive_check.specs.Given.{ctor_of, family_of, block_from, given_of
 use Rattle.env_check.specs.Rules.{givens}
 use Rattle.checked_laws.specs.CheckedFalse.{DeclaresEmpty}
 use Rattle.answer_laws.specs.Derived.{IsDerived, DeclaresEmptyFamily, read_constructor, read_family, read_declaration}
+use Rattle.calculus_rules.proofs.Listing.{has_map}
 
 -- two maps, one after the other, that are a third on each item
 each_same : {X Y Z : Type 0} (f : X → Y) (g : Y → Z) (h : X → Z) → ((x : X) → g (f x) ≡ h x) → (xs : List X) → map g (map f xs) ≡ map h xs
@@ -34,14 +35,10 @@ derived e E T c = record {
   declarations = c.declarations ∙ ap reverse (each_same given_of plain_given read_declaration declaration_same e.decls);
 }
 
-has_mapped : {X Y : Type 0} (g : X → Y) {xs : List X} {x : X} → Has xs x → Has (map g xs) (g x)
-has_mapped g here = here
-has_mapped g (there h) = there (has_mapped g h)
-
 pub given_empty : (e : RawEnv) (f : FamilyId) → DeclaresEmptyFamily e f → DeclaresEmpty (givens e) f
 given_empty e f d = (
   block_from f.block d.parameters d.families,
-  has_mapped given_of d.declared,
+  has_map given_of d.declared,
   refl,
   (family_of d.family, slice_get-map family_of d.families f.family ∙ ap (option_map family_of) d.at, ap (map ctor_of) d.none),
 )

@@ -10,13 +10,13 @@ use Rattle.box_terms.specs.declared.term.BoxBranch.{BoxBranch}
 use Rattle.box_terms.specs.declared.term.BoxDef.{BoxDef}
 use Rattle.lambda_box.specs.BoxProgram.{BoxFamily, BoxConstant, BoxProgram, Has, here, there, box_apply}
 use Rattle.lambda_box.specs.OrdinaryForm.{family_of}
-use Rattle.lambda_box.proofs.Families.{has_map}
 use Rattle.box_passes.specs.Saturate.{innermost, lambdas, constructor_function, saturate_family, saturate_applied, saturate_terms, saturate_term}
 use Rattle.box_passes.specs.Heads.{arity_in, spare_of, head_of, spare, applied, head, heads}
 use Rattle.box_passes.specs.Maps.{map_branch, map_def, AreDeep, AreShallow, deep_body}
 use Rattle.box_passes.specs.PassResults.{IsDeep, deep_main, deep_constant}
 use Rattle.std.proofs.lemmas.List.{reverse-append}
 use Rattle.box_passes.proofs.Maps.{rargs_map, length_map}
+use Rattle.trees.proofs.Lists.{has_map}
 
 drop_none : {A : Type 0} (n : ℕ) → drop {A = A} n [] ≡ []
 drop_none zero = refl

@@ -19,7 +19,8 @@ use Rattle.lambda_box.specs.OrdinaryForm.{same_family, family_of}
 use Rattle.lambda_box.specs.OrdinaryForm.{propositional_of}
 use Rattle.box_passes.specs.PropMatch.{only_branch, match_of, drop_matches, drop_matches_terms, drop_matches_constant, prop_match_program, PropMatchKeeps}
 use Rattle.lambda_box.proofs.Spines.{boxes_number}
-use Rattle.lambda_box.proofs.Families.{same_family_is, unique_family, has_map}
+use Rattle.lambda_box.proofs.Families.{same_family_is, unique_family}
+use Rattle.trees.proofs.Lists.{has_map}
 
 mutual
   -- the other term is the term with some of its matches on propositional families dropped

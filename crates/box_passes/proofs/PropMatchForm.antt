@@ -20,9 +20,9 @@ use Rattle.box_passes.specs.PropMatch.{only_branch, match_of, drop_matches, drop
 use Rattle.lambda_box.proofs.Naming.{ordered_body}
 use Rattle.trees.proofs.Every.{every_substitute}
 use Rattle.lambda_box.proofs.Spines.{boxes_number}
-use Rattle.lambda_box.proofs.Families.{has_map}
 use Rattle.lambda_box.proofs.Families.{of_has_map, distinct_mapped}
 use Rattle.lambda_box.proofs.FormKept.{fix_bodies_substituted}
+use Rattle.trees.proofs.Lists.{has_map}
 
 -- box or a variable
 data IsTiny : BoxTerm → Type 0 where

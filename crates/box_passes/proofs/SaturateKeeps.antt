@@ -19,12 +19,13 @@ use Rattle.box_passes.specs.SaturateLaws.{SaturateKeeps, SaturatedForm}
 use Rattle.lambda_box.proofs.Naming.{ordered_body, bodies_closed}
 use Rattle.lambda_box.proofs.Spines.{closed_apply, apply_append}
 use Rattle.box_passes.proofs.Filling.{drop_first}
-use Rattle.lambda_box.proofs.Families.{unique_family, family_found, has_map}
+use Rattle.lambda_box.proofs.Families.{unique_family, family_found}
 use Rattle.box_passes.proofs.Saturating.{slice_there}
 use Rattle.box_passes.proofs.SaturatedForm.{saturated_form, saturated_whole}
 use Rattle.box_passes.proofs.Results.{result_of}
 use Rattle.box_passes.proofs.SaturateRelation.{Sat, sat_rel, sat_box, sat_lambda, sat_let, sat_constant, sat_case, sat_fix, sat_full, sat_waits, SatTerms, sat_done, sat_next, SatArgs, args_none, args_dropped, args_kept, waits_none, SatList, sat_none, sat_one, sat_apply}
 use Rattle.box_passes.proofs.Saturates.{SatFamily, keeps, sat_reads}
+use Rattle.trees.proofs.Lists.{has_map}
 
 closed_lambdas : (m k : ℕ) (b : BoxTerm) → Closed (m + k) b → Closed k (lambdas m b)
 closed_lambdas zero k b h = let z : 0 + k ≡ k = omega arith in subst (λ n. Closed n b) z h

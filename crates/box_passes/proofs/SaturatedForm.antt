@@ -16,8 +16,9 @@ use Rattle.lambda_box.specs.OrdinaryForm.{family_of}
 use Rattle.box_passes.specs.Saturate.{innermost, lambdas, constructor_function, saturate_counted, saturate_arguments, saturate_family, saturate_applied, saturate_terms, saturate_term, saturate_constant, without_parameters, saturate_program}
 use Rattle.lambda_box.specs.SaturatedForm.{IsSaturatedAt, AreSaturated, IsSaturated}
 use Rattle.lambda_box.proofs.Naming.{ordered_body}
-use Rattle.lambda_box.proofs.Families.{unique_family, family_found, has_map, of_has_map, distinct_mapped}
+use Rattle.lambda_box.proofs.Families.{unique_family, family_found, of_has_map, distinct_mapped}
 use Rattle.box_passes.proofs.Saturating.{slice_there}
+use Rattle.trees.proofs.Lists.{has_map}
 
 module _ (Fs : List BoxFamily) (cs : List BoxConstant) (unique : (F G : BoxFamily) → Has Fs F → Has Fs G → F.id ≡ G.id → F ≡ G) where
   abbrev Gs : List BoxFamily

@@ -13,11 +13,12 @@ use Rattle.lambda_box.specs.BoxForm.{IsFixBody, boxed, last, more, AreFixBodies,
 use Rattle.lambda_box.specs.OrdinaryForm.{family_of}
 use Rattle.box_passes.specs.Saturate.{constructor_function, saturate_counted, saturate_arguments, saturate_family, saturate_applied, saturate_terms, saturate_term, saturate_constant, without_parameters, saturate_program}
 use Rattle.lambda_box.specs.ClosureEvaluation.{ClosureEnv}
-use Rattle.lambda_box.proofs.Families.{unique_family, has_map, family_found}
+use Rattle.lambda_box.proofs.Families.{unique_family, family_found}
 use Rattle.lambda_box.proofs.Naming.{ordered_body}
 use Rattle.box_passes.proofs.Standing as standing
 use Rattle.box_passes.proofs.Standing.{Stands, StandTerms, none, next, StandBody, body_boxed, body_last, body_more, StandDefs, no_defs, one_def, StandArgs, args_head, args_dropped, args_kept, closed_stands}
 use Rattle.box_passes.proofs.Follows.{FamilyAt, ConstantAt}
+use Rattle.trees.proofs.Lists.{has_map}
 
 -- lists of terms
 

@@ -1,14 +1,11 @@
 -- Texts that are put item by item.
-use Rattle.std.proofs.Common.{◌≡◌, ◌≤◌, ◌<◌, ◌+◌, ◌∙◌, ap, sym, subst, ℕ, zero, suc, List, [], ◌∷◌, ◌++◌, length, drop, drop-cons, get_or, add-one, arith}
+use Rattle.std.proofs.Common.{◌≡◌, ◌≤◌, ◌<◌, ◌+◌, ◌∙◌, ap, sym, ℕ, List, ◌++◌, length, drop, get_or}
 use Rattle.std.proofs.lemmas.List.{append_assoc, append-nil, drop_all}
-use Rattle.trees.specs.Measures.{depth, depth_trees}
 use Rattle.box_terms.specs.declared.term.BoxBranch.{BoxBranch}
 use Rattle.box_terms.specs.declared.term.BoxDef.{BoxDef}
 use Rattle.box_terms.specs.BoxLists.{arms_of, bodies_of, rargs_of}
 use Rattle.box_text.specs.BoxText.{Table, term_text, arm_text, arms_text, definition_text, definitions_text, each_text}
-
-next_is : {A : Type 0} (xs : List A) (i : ℕ) (x : A) → i < length xs → x ≡ get_or xs i x → drop i xs ≡ x ∷ drop (i + 1) xs
-next_is xs i x h e = rw (add-one, drop-cons xs i x h) (ap (λ y. y ∷ drop (suc i) xs) (sym e))
+use Rattle.trees.proofs.Lists.{next_is}
 
 -- what is still to be put, after one piece more
 next_piece : (out out' piece before rest whole : List ℕ) → out' ≡ out ++ piece → before ≡ piece ++ rest → out ++ before ≡ whole → out' ++ rest ≡ whole
@@ -44,13 +41,3 @@ module _ (out whole : List ℕ) where
   definitions_all ns m ds i l w = sym (append-nil out) ∙ sym (ap (λ ys. out ++ definitions_text ns (rargs_of ys) (bodies_of m ys)) (drop_all i ds l)) ∙ w
 
 -- each body is smaller than the list
-
-pub arm_is_less : (bs : List BoxBranch) (i : ℕ) (b : BoxBranch) → i < length bs → b ≡ get_or bs i b → depth b.body ≤ depth_trees (arms_of bs)
-arm_is_less [] i b l e = absurd (omega arith)
-arm_is_less (x ∷ bs) zero b l e = subst (λ y. depth y.body ≤ depth_trees (arms_of (x ∷ bs))) (sym e) (omega arith)
-arm_is_less (x ∷ bs) (suc i) b l e = let h = arm_is_less bs i b (omega arith) e in omega (arith, h)
-
-pub body_is_less : (m : ℕ) (ds : List BoxDef) (i : ℕ) (d : BoxDef) → i < length ds → d ≡ get_or ds i d → depth d.body ≤ depth_trees (bodies_of m ds)
-body_is_less m [] i d l e = absurd (omega arith)
-body_is_less m (x ∷ ds) zero d l e = subst (λ y. depth y.body ≤ depth_trees (bodies_of m (x ∷ ds))) (sym e) (omega arith)
-body_is_less m (x ∷ ds) (suc i) d l e = let h = body_is_less m ds i d (omega arith) e in omega (arith, h)

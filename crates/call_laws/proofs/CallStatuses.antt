@@ -44,9 +44,7 @@ use Rattle.driver.proofs.TextCauses.{is_spelled}
 use Rattle.call_laws.specs.CallValues.{HasArguments, answer_types, kept_environment, tokens_behind}
 use Rattle.call_laws.proofs.SmallTerms.{terms_small}
 use Rattle.call_laws.proofs.StoredRuns.{call_ends_answer, most}
-
-are_is : (ds es : Data) → ArgumentsAre ds ≡ ArgumentsAre es → ds ≡ es
-are_is ds es e = cc
+use Rattle.first_order.proofs.ArgumentSpelling.{are_is}
 
 module _ (q : Request) (range : IsInRange q) (bytes : List ℕ) (e : RawEnv) (s : SpellsWithin (front_bytes bytes) e) (h : HasArguments q.turns e bytes) where
   pos : 0 < q.pages

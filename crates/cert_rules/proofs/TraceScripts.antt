@@ -1,6 +1,6 @@
 -- What directed comparison writes is accepted as a script.
 use Rattle.std.proofs.Common.{◌≡◌, ◌∙◌, ℕ, zero, suc, ◌+◌, ◌==◌, ◌||◌, Bool, true, if◌then◌else◌, List, [], ◌∷◌, ◌++◌, length, Option, Some, None, refl, sym, ap, subst, arith, slice_get, length-append, append-nil, append_assoc}
-use Rattle.std.proofs.lemmas.Bool.{eqb-true, eq-eqb}
+use Rattle.std.proofs.lemmas.Bool.{eqb-true, eq-eqb, and_from}
 use Rattle.pc_terms.specs.declared.leaf.FamilyId.{FamilyId}
 use Rattle.pc_terms.specs.Syntax.{CaseOf, FixOf, Term, Terms, End, Child, Group, Done, Next, Rel, Const, Case, head, args, number, App, Ind, Construct, Fix}
 use Rattle.pc_terms.specs.Formed.{binders_of, EachTerm, AreAll}
@@ -18,7 +18,7 @@ use Rattle.calculus_rules.specs.Listed.{list_of}
 use Rattle.calculus_rules.proofs.Telescopes.{entries_at_length}
 use Rattle.pc_rules.specs.WellCounted.{arities, IsCountedNode, IsCounted, AreCountedValues}
 use Rattle.pc_rules.proofs.WeakNext.{same_names_is, same_families_is, both_true}
-use Rattle.pc_rules.proofs.SameTrees.{same_numbers_is, same_itself, one_number, one_list, one_family, and_true, false_true}
+use Rattle.pc_rules.proofs.SameTrees.{same_numbers_is, same_itself, one_number, one_list, one_family, false_true}
 use Rattle.rule_laws.proofs.Runs.{done_value}
 use Rattle.rule_laws.proofs.KeepCounts.{under_counted, values_extended}
 use Rattle.rule_laws.proofs.Comparing.{names_long, list_long, first_same, rest_same, no_suc, no_cons, lifted_long}
@@ -261,7 +261,7 @@ module _ (cert : Items) (E : Env) (q : Test) where
           let V : Values = values c in
           let ends : Option (List WalkAct) = term_parts go V bs bs' (Some []) in
           ap (λ b. if b then node_parts go V equal (CaseOf f n) (Group ps (Child {n = n} ret (Child {n = 0} s (Group bs End)))) (Group qs (Child {n = n} ret' (Child {n = 0} s' (Group bs' End)))) else None)
-          (and_true (same_families f f) (n == n) (one_family f) (one_number n))
+          (and_from (same_families f f) (n == n) (one_family f) (one_number n))
           ∙ term_parts_are go V ps qs (with_part (go (under n V) true ret ret') (with_part (go V true s s') ends)) _ e
           (part_first (go (under n V) true ret ret') (with_part (go V true s s') ends) _
           (part_first (go V true s s') ends _ (term_parts_are go V bs bs' (Some []) [] e' refl)))
@@ -315,7 +315,7 @@ module _ (cert : Items) (E : Env) (q : Test) where
           let go : Script = script cert E q m in
           let V : Values = values c in
           ap (λ b. if b then node_parts go V equal (FixOf i rargs) (Group types (Group bodies End)) (Group types' (Group bodies' End)) else None)
-          (and_true (i == i) (same_numbers rargs rargs) (one_number i) (one_list rargs))
+          (and_from (i == i) (same_numbers rargs rargs) (one_number i) (one_list rargs))
           ∙ term_parts_are go V types types' (term_parts go V bodies bodies' (Some [])) _ e (term_parts_are go V bodies bodies' (Some []) [] e' refl)
 
       fix_trace : (m : ℕ) (equal : Bool) (i j : ℕ) (rargs rargs' : List ℕ) (types types' bodies bodies' : Terms) → IsCounted E (Fix i rargs types bodies) →

@@ -14,10 +14,11 @@ use Rattle.cert_rules.specs.Walk.{Items}
 use Rattle.cert_text.specs.CertText.{cert_word, one_word, same_word, conv_word, left_word, right_word, parts_word, item_tokens, items_tokens, IsWithinU32, AreSmall}
 use Rattle.cert_text.specs.CertReading.{CertRead, Read, WrongToken, TooGreat, Wants, AnItem, LeftSteps, RightSteps, with_item, read_number, read_word, read_item, read_token, read_items, is_text, read_next, read_certificate}
 use Rattle.cert_text.specs.TextLaws.{Begins, FailsAt, WrongIsFirst}
-use Rattle.cert_text.proofs.ReadTokens.{next_item, no_item, bytes_are, text_is, less_from}
+use Rattle.cert_text.proofs.ReadTokens.{next_item, no_item, text_is, less_from}
 use Rattle.cert_text.proofs.Taking.{small_number, word_same, word_conv, word_parts, word_side, read_left, read_right, no_side}
 use Rattle.cert_text.proofs.PrintedTokens as printing
 use Rattle.cert_text.proofs.PrintedTokens.{token_as}
+use Rattle.dump_grammar.proofs.Words.{same_bytes}
 
 with_item_wrong : (x : CertItem) (r : CertRead) (o : ℕ) → with_item x r ≡ WrongToken o → r ≡ WrongToken o
 with_item_wrong x (Read is) o e = absurd (cc)
@@ -151,7 +152,7 @@ module _ (len o : ℕ) where
           ((rest : List Spanned) → read_items len AnItem (s ∷ rest) ≡ read_items len v rest) → read_items len AnItem (s ∷ ss) ≡ WrongToken o → ItemsFail AnItem (s ∷ ss)
       goes_side v item word b g k e =
           later (λ ss. read_items len v ss) (λ ss. read_items len AnItem ss) (GoesOn v) (Opens []) s ss (λ rest q. k rest ∙ q)
-          (λ ts q. subst (λ u. Opens [] (u ∷ ts)) (ap Atom (sym (bytes_are a word b)) ∙ sym h) (g ts q)) (rec v (sym (k ss) ∙ e))
+          (λ ts q. subst (λ u. Opens [] (u ∷ ts)) (ap Atom (sym (same_bytes a word b)) ∙ sym h) (g ts q)) (rec v (sym (k ss) ∙ e))
 
       -- a word
       module _ (none : number_of a ≡ None) where
@@ -159,7 +160,7 @@ module _ (len o : ℕ) where
         at_word rest = token_as len AnItem s rest (Atom a) h ∙ ap (λ n. read_item s.start a n (λ w. read_items len w rest)) none
 
         word_is : (word : List ℕ) → bytes_eq a word ≡ true → (rest : List Text) → Atom word ∷ rest ≡ Atom a ∷ rest
-        word_is word b rest = ap (λ x. Atom x ∷ rest) (sym (bytes_are a word b))
+        word_is word b rest = ap (λ x. Atom x ∷ rest) (sym (same_bytes a word b))
 
         word_fails : (b1 b2 b3 b4 b5 : Bool) → bytes_eq a same_word ≡ b1 → bytes_eq a conv_word ≡ b2 → bytes_eq a parts_word ≡ b3 → bytes_eq a left_word ≡ b4 → bytes_eq a right_word ≡ b5 →
             read_items len AnItem (s ∷ ss) ≡ WrongToken o → ItemsFail AnItem (s ∷ ss)

@@ -2,7 +2,6 @@
 use Rattle.std.proofs.Common.{◌≡◌, ◌∙◌, ℕ, ◌^◌, ◌<◌, Bool, true, false, if◌then◌else◌, List, [], ◌∷◌, Option, Some, None, refl, sym, ap, subst, arith}
 use Rattle.std.specs.Prelude.{nat_lt, bytes_eq}
 use Rattle.std.proofs.lemmas.Bool.{ltb-true}
-use Rattle.std.proofs.lemmas.Slice.Eq.{bytes_eq-Decides}
 use Rattle.sexp_reader.specs.Text.{Text, Open, Close, Atom}
 use Rattle.sexp_reader.specs.Lex.{Spanned}
 use Rattle.dump_grammar.specs.Numbers.{number_of}
@@ -15,6 +14,7 @@ use Rattle.cert_rules.specs.declared.item.CertItem.TheVariants.{Number, Same, Co
 use Rattle.cert_rules.specs.Walk.{Items}
 use Rattle.cert_text.specs.CertText.{cert_word, one_word, same_word, conv_word, left_word, right_word, parts_word, item_tokens, items_tokens, cert_tokens, IsWithinU32, AreSmall}
 use Rattle.cert_text.specs.CertReading.{CertRead, Read, WrongToken, TooGreat, Wants, AnItem, LeftSteps, RightSteps, with_item, read_number, read_item, read_end, read_token, read_items, is_text, read_next, read_certificate}
+use Rattle.dump_grammar.proofs.Words.{same_bytes}
 
 -- what is no certificate
 
@@ -67,26 +67,23 @@ end_read : (ss : List Spanned) (is : Items) → read_end ss ≡ Read is → (tex
 end_read [] is e = (refl, one_read e)
 end_read (s ∷ ss) is e = wrong_read e
 
-pub bytes_are : (a b : List ℕ) → bytes_eq a b ≡ true → a ≡ b
-bytes_are a b e = (bytes_eq-Decides a b).0 e
-
 module _ (start : ℕ) (a : List ℕ) (ss : List Spanned) (go : Wants → CertRead) (is : Items)
     (rec : (w : Wants) (js : Items) → go w ≡ Read js → Spells w (texts ss) js) where
   item_at_word : (x : CertItem) (word : List ℕ) → IsWithinU32 x → ((rest : List Text) → item_tokens x rest ≡ Atom word ∷ rest) → bytes_eq a word ≡ true → with_item x (go AnItem) ≡ Read is →
       Spells AnItem (Atom a ∷ texts ss) is
   item_at_word x word small t h e =
       let r = with_item_read x (go AnItem) is e in
-      one_more x (Atom a ∷ texts ss) (texts ss) is r.0 r.2 small (rec AnItem r.0 r.1) (ap (λ a. Atom a ∷ texts ss) (bytes_are a word h) ∙ sym (t (texts ss)))
+      one_more x (Atom a ∷ texts ss) (texts ss) is r.0 r.2 small (rec AnItem r.0 r.1) (ap (λ a. Atom a ∷ texts ss) (same_bytes a word h) ∙ sym (t (texts ss)))
 
   left_at_word : bytes_eq a left_word ≡ true → go LeftSteps ≡ Read is → Spells AnItem (Atom a ∷ texts ss) is
   left_at_word h e =
       let r = rec LeftSteps is e in
-      one_more (Left r.0) (Atom a ∷ texts ss) (items_tokens r.1) is r.1 r.2 r.4 (refl, r.5) (λ i. Atom (bytes_are a left_word h i) ∷ r.3 i)
+      one_more (Left r.0) (Atom a ∷ texts ss) (items_tokens r.1) is r.1 r.2 r.4 (refl, r.5) (λ i. Atom (same_bytes a left_word h i) ∷ r.3 i)
 
   right_at_word : bytes_eq a right_word ≡ true → go RightSteps ≡ Read is → Spells AnItem (Atom a ∷ texts ss) is
   right_at_word h e =
       let r = rec RightSteps is e in
-      one_more (Right r.0) (Atom a ∷ texts ss) (items_tokens r.1) is r.1 r.2 r.4 (refl, r.5) (λ i. Atom (bytes_are a right_word h i) ∷ r.3 i)
+      one_more (Right r.0) (Atom a ∷ texts ss) (items_tokens r.1) is r.1 r.2 r.4 (refl, r.5) (λ i. Atom (same_bytes a right_word h i) ∷ r.3 i)
 
   word_read : (b1 b2 b3 b4 b5 : Bool) → bytes_eq a same_word ≡ b1 → bytes_eq a conv_word ≡ b2 → bytes_eq a parts_word ≡ b3 → bytes_eq a left_word ≡ b4 → bytes_eq a right_word ≡ b5 →
       (if b1 then with_item Same (go AnItem) else if b2 then with_item Conv (go AnItem) else if b3 then with_item Parts (go AnItem) else if b4 then go LeftSteps
@@ -134,7 +131,7 @@ items_read len w (s ∷ ss) is e = token_read w s.start s.text ss (λ w. read_it
 
 pub text_is : (t u : Text) → is_text t u ≡ true → t ≡ u
 text_is Open Open e = refl
-text_is (Atom a) (Atom b) e = ap Atom (bytes_are a b e)
+text_is (Atom a) (Atom b) e = ap Atom (same_bytes a b e)
 text_is _ _ e = absurd (cc)
 
 next_if : (t : Text) (s : Spanned) (r : CertRead) (is : Items) (b : Bool) → is_text s.text t ≡ b → (if b then r else WrongToken s.start) ≡ Read is → (s.text ≡ t) × (r ≡ Read is)

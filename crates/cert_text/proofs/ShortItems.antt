@@ -1,6 +1,6 @@
 -- Items of one byte, and those of a side with a number of one, behind one space and before one.
-use Rattle.std.proofs.Common.{◌≡◌, ◌∙◌, sym, ap, refl, subst, ℕ, suc, ◌+◌, ◌-◌, ◌^◌, ◌<◌, ◌≤◌, Bool, true, false, ◌&&◌, if◌then◌else◌, List, [], ◌∷◌, length, get_or, take, drop, Some, None, arith}
-use Rattle.std.proofs.lemmas.Bool.{le-leb}
+use Rattle.std.proofs.Common.{◌≡◌, ◌∙◌, sym, ap, refl, subst, ℕ, suc, ◌+◌, ◌-◌, ◌^◌, ◌<◌, ◌≤◌, true, false, if◌then◌else◌, List, [], ◌∷◌, length, get_or, take, drop, Some, None, arith}
+use Rattle.std.proofs.lemmas.Bool.{le-leb, and_from}
 use Rattle.sexp_reader.specs.Text.{Atom}
 use Rattle.sexp_reader.specs.Lex.{is_blank, is_atom_byte, atom_len, left}
 use Rattle.sexp_reader.proofs.Steps.{front, lex-blank, lex-atom, atom_len-more, atom_len-none}
@@ -13,15 +13,11 @@ use Rattle.cert_text.proofs.Taking.{small_number}
 
 -- what a byte is
 
-both : (a b : Bool) → a ≡ true → b ≡ true → (a && b) ≡ true
-both true b e f = f
-both false b e f = absurd (cc)
-
 pub digit_number : (b : ℕ) → 48 ≤ b → b ≤ 57 → number_of (b ∷ []) ≡ Some (b - 48)
 unfolding number_of
 digit_number b l h =
     let z : 0 + (b - 48) ≡ b - 48 = omega arith in
-    ap (λ t. if t then digits_from (0 + (b - 48)) [] else None) (both _ _ (le-leb 48 b l) (le-leb b 57 h)) ∙ ap (λ n. Some n) z
+    ap (λ t. if t then digits_from (0 + (b - 48)) [] else None) (and_from _ _ (le-leb 48 b l) (le-leb b 57 h)) ∙ ap (λ n. Some n) z
 
 pub number_byte : (b n : ℕ) → n < 2 ^ 32 → number_of (b ∷ []) ≡ Some n → IsOfByte b (Number n)
 number_byte b n k h start go = ap (λ o. read_item start (b ∷ []) o go) h ∙ small_number start Number n (go AnItem) k

@@ -17,12 +17,9 @@ use Rattle.metatheory.specs.EmptyFamilies.{IsEmptyFamily}
 use Rattle.metatheory.proofs.EmptyFamilies.{empty_families_have_no_values}
 use Rattle.checked_laws.specs.CheckedFalse.{DeclaresEmpty, DeclaresNoAxiom, CheckedFalseHasNoValue, CheckedFalseNeverEnds}
 use Rattle.checked_laws.proofs.EmptyFamilies.{empty_families_never_end}
+use Rattle.calculus_rules.proofs.Listing.{has_map}
 
 -- members of lists
-
-has_mapped : {X Y : Type 0} (g : X → Y) {xs : List X} {x : X} → Has xs x → Has (map g xs) (g x)
-has_mapped g here = here
-has_mapped g (there h) = there (has_mapped g h)
 
 from_mapped : {X Y : Type 0} (g : X → Y) (xs : List X) {y : Y} → Has (map g xs) y → (x : X) × Has xs x × (g x ≡ y)
 from_mapped g [] h = elim h [ ]
@@ -72,7 +69,7 @@ is_whole (Constant k T b) B e = absurd (cc)
 module _ (ds : List Given) (E : Env) (same : map plain E.declarations ≡ reverse (map plain_given ds)) where
   empty_kept : (f : FamilyId) → DeclaresEmpty ds f → IsEmptyFamily E f
   empty_kept f (B, has, name, (F, at, none)) =
-      let there : Has (map plain E.declarations) (Whole (plain_block B)) = subst (λ xs. Has xs (Whole (plain_block B))) (sym same) (has_reversed (map plain_given ds) (has_mapped plain_given has)) in
+      let there : Has (map plain E.declarations) (Whole (plain_block B)) = subst (λ xs. Has xs (Whole (plain_block B))) (sym same) (has_reversed (map plain_given ds) (has_map plain_given has)) in
       let (d, kept, is) = from_mapped plain E.declarations there in
       let (D, whole, alike) = is_whole d (plain_block B) is in
       let (G, at', none') = family_there B.families D.families f.family F (ap (λ B. B.families) alike) at none in
@@ -86,7 +83,7 @@ module _ (ds : List Given) (E : Env) (same : map plain E.declarations ≡ revers
   no_axioms_kept : DeclaresNoAxiom ds → HasNoAxioms E
   no_axioms_kept n k (T, has) =
       let back = subst (λ xs. Has xs (Constant k T None)) (reverse-reverse (map plain_given ds))
-      (has_reversed (reverse (map plain_given ds)) (subst (λ xs. Has xs (Constant k T None)) same (has_mapped plain has))) in
+      (has_reversed (reverse (map plain_given ds)) (subst (λ xs. Has xs (Constant k T None)) same (has_map plain has))) in
       let (g, given, is) = from_mapped plain_given ds back in
       n k T (subst (Has ds) (given_axiom g k T is) given)
 

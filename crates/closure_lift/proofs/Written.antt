@@ -24,20 +24,21 @@ use Rattle.closure_lift.proofs.Counted.{functions_length, bounds_append}
 use Rattle.closure_lift.proofs.FreeWords.{size_plains}
 use Rattle.closure_lift.proofs.Going.{BlockGoes, block_goes, ArmsGo, arms_go, arms_code, DefsGo, defs_go, defs_end, functions_more}
 use Rattle.closure_lift.proofs.Making.{blanks_length}
-use Rattle.closure_lift.proofs.Noting.{next_of, notes_step, notes_tail, notes_one, part_none}
+use Rattle.closure_lift.proofs.Noting.{notes_step, notes_tail, notes_one, part_none}
 use Rattle.closure_lift.proofs.Placed.{block_length}
 use Rattle.closure_lift.proofs.Steps.{stand_first, block_noted, captures_first}
+use Rattle.trees.proofs.Lists.{next_is}
 
 -- what is noted of the next operation, and of the next branch, stands where the functions end
 pub op_stands : (notes : List (List ℕ)) (g n : ℕ) (ops : List Op) (i : ℕ) (o : Op) (t : AnfBlock) → i < length ops → o ≡ get_or ops i o → Stand notes g (notes_block n (block_of (bindings_of (drop i ops)) t)) → Stand notes g (notes_bound n (seen_anf o))
 op_stands notes g n ops i o t lt is st =
     stand_first notes g (notes_bound n (seen_anf o)) (notes_block (suc n) (block_of (bindings_of (drop (i + 1) ops)) t))
-    (transport (Stand notes g) (ap (λ zs. notes_block n (block_of (bindings_of zs) t)) (next_of ops i o lt is) ∙ notes_step n (seen_anf o) (bindings_of (drop (i + 1) ops)) t) st)
+    (transport (Stand notes g) (ap (λ zs. notes_block n (block_of (bindings_of zs) t)) (next_is ops i o lt is) ∙ notes_step n (seen_anf o) (bindings_of (drop (i + 1) ops)) t) st)
 
 pub arm_stands : (notes : List (List ℕ)) (g n : ℕ) (arms : List AnfBranch) (i : ℕ) (b : AnfBranch) → i < length arms → b ≡ get_or arms i b → Stand notes g (notes_branches n (branches_of (drop i arms))) → Stand notes g (notes_block (b.binders + n) b.body)
 arm_stands notes g n arms i b lt is st =
     stand_first notes g (notes_block (b.binders + n) b.body) (notes_branches n (branches_of (drop (i + 1) arms)))
-    (transport (λ zs. Stand notes g (notes_branches n (branches_of zs))) (next_of arms i b lt is) st)
+    (transport (λ zs. Stand notes g (notes_branches n (branches_of zs))) (next_is arms i b lt is) st)
 
 pub inside_stands : (notes : List (List ℕ)) (g n : ℕ) (s s2 : Scope) (t : AnfBlock) → s2 ≡ plains n s → Stand notes g (notes_block (n + size s) t) → Stand notes g (notes_block (size s2) t)
 inside_stands notes g n s s2 t e = transport (λ k. Stand notes g (notes_block k t)) (sym (ap size e ∙ size_plains n s))
@@ -47,17 +48,17 @@ def_stands notes g n ds i d lt is st = stand_first notes g (notes_def n d) (note
 
 -- what is asked of the rest of the program is asked of the next operation, branch or definition
 pub op_captures : (s : Scope) (ops : List Op) (i : ℕ) (o : Op) (t : AnfBlock) → i < length ops → o ≡ get_or ops i o → BlockCaptures most_words s (block_of (bindings_of (drop i ops)) t) → BoundCaptures s (seen_anf o)
-op_captures s ops i o t lt is r = captures_first s (seen_anf o) (bindings_of (drop (i + 1) ops)) t (transport (λ zs. BlockCaptures most_words s (block_of (bindings_of zs) t)) (next_of ops i o lt is) r)
+op_captures s ops i o t lt is r = captures_first s (seen_anf o) (bindings_of (drop (i + 1) ops)) t (transport (λ zs. BlockCaptures most_words s (block_of (bindings_of zs) t)) (next_is ops i o lt is) r)
 
 pub arm_captures : (s : Scope) (arms : List AnfBranch) (i : ℕ) (b : AnfBranch) → i < length arms → b ≡ get_or arms i b → BranchesCapture most_words s (branches_of (drop i arms)) → BlockCaptures most_words (plains b.binders s) b.body
-arm_captures s arms i b lt is r = (transport (λ zs. BranchesCapture most_words s (branches_of zs)) (next_of arms i b lt is) r).0
+arm_captures s arms i b lt is r = (transport (λ zs. BranchesCapture most_words s (branches_of zs)) (next_is arms i b lt is) r).0
 
 def_first : (s : Scope) (d : AnfDef) (ds : List AnfDef) → DefsCapture most_words s (defs_of (d ∷ ds)) → DefCaptures s d
 def_first s (def.Lambda b) ds r = r.0
 def_first s def.Box ds r = tt
 
 pub def_captures : (s : Scope) (ds : List AnfDef) (i : ℕ) (d : AnfDef) → i < length ds → d ≡ get_or ds i d → DefsCapture most_words s (defs_of (drop i ds)) → DefCaptures s d
-def_captures s ds i d lt is r = def_first s d (drop (i + 1) ds) (transport (λ zs. DefsCapture most_words s (defs_of zs)) (next_of ds i d lt is) r)
+def_captures s ds i d lt is r = def_first s d (drop (i + 1) ds) (transport (λ zs. DefsCapture most_words s (defs_of zs)) (next_is ds i d lt is) r)
 
 module _ (notes : List (List ℕ)) (v0 : Scope × List ℕ) (fr0 : List LiftSlot) (fs0 : List Function) (t0 : AnfBlock) where
   -- one more binding is lifted and stands behind the others
@@ -71,7 +72,7 @@ module _ (notes : List (List ℕ)) (v0 : Scope × List ℕ) (fr0 : List LiftSlot
   goes_on i v fr fs code ops o t h lt is fr1 code1 code2 x fs1 v1 v2 fr2 eo ef ec en cap e1 e2 ev er =
       transport (λ z. BlockGoes notes v0 fr0 fs0 t0 (i + 1) v2 fr2 fs1 z (block_of (bindings_of (drop (i + 1) ops)) t)) (sym (ap bounds_of e2 ∙ bounds_append code1 (x ∷ [])))
       (block_goes notes v0 fr0 fs0 t0 i v fr fs (bounds_of code) (seen_anf o) (bindings_of (drop (i + 1) ops)) t
-      (transport (λ zs. BlockGoes notes v0 fr0 fs0 t0 i v fr fs (bounds_of code) (block_of (bindings_of zs) t)) (next_of ops i o lt is) h)
+      (transport (λ zs. BlockGoes notes v0 fr0 fs0 t0 i v fr fs (bounds_of code) (block_of (bindings_of zs) t)) (next_is ops i o lt is) h)
       fr1 (bounds_of code1) (seen x) fs1 v2 fr2 eo ef ec en cap (ev ∙ ap (λ (v : Scope × List ℕ). let w : Scope × List ℕ = (plains 1 v.0, unnumbered 1 v.1) in w) e1) (er ∙ ap (λ (v : Scope × List ℕ). holding 1 v.0 fr1) e1))
 
   -- only the tail is left
@@ -92,7 +93,7 @@ module _ (notes : List (List ℕ)) (v0 : Scope × List ℕ) (fr0 : List LiftSlot
       ArmsGo notes v0 fr0 fs0 bs0 v2 fr2 fs1 items2 (branches_of (drop (i + 1) arms))
   arms_on v fr fs items arms i b h lt is x fs1 v2 fr2 items2 arm ef cap ev er ei =
       transport (λ zs. ArmsGo notes v0 fr0 fs0 bs0 v2 fr2 fs1 zs (branches_of (drop (i + 1) arms))) (sym ei)
-      (arms_go notes v0 fr0 fs0 bs0 v fr fs items b.binders b.body (branches_of (drop (i + 1) arms)) (transport (λ zs. ArmsGo notes v0 fr0 fs0 bs0 v fr fs items (branches_of zs)) (next_of arms i b lt is) h)
+      (arms_go notes v0 fr0 fs0 bs0 v fr fs items b.binders b.body (branches_of (drop (i + 1) arms)) (transport (λ zs. ArmsGo notes v0 fr0 fs0 bs0 v fr fs items (branches_of zs)) (next_is arms i b lt is) h)
       fs1 x v2 fr2 arm.binders arm.body ef cap ev er)
 
   -- all branches are lifted
@@ -130,7 +131,7 @@ module _ (notes : List (List ℕ)) (ws : List ℕ) (at : ℕ) (v0 : Scope × Lis
   pub defs_on : (i : ℕ) (v : Scope × List ℕ) (fs : List Function) (ds : List AnfDef) (d : AnfDef) → DefsGo notes ws at v0 fs0 ds0 i v fs (defs_of (drop i ds)) → i < length ds → d ≡ get_or ds i d →
       (t : Block) (fs1 fs2 : List Function) (v2 : Scope × List ℕ) → t ≡ def_body v ws (length fs) d → functions_of fs1 ≡ functions_of fs ++ functions_def v (length fs) d → DefCaptures v.0 d →
       functions_of fs2 ≡ slice_set (functions_of fs1) (at + i) (function_with ws t) → v2 ≡ v → DefsGo notes ws at v0 fs0 ds0 (i + 1) v2 fs2 (defs_of (drop (i + 1) ds))
-  defs_on i v fs ds d h lt is = one_def i v fs d (drop (i + 1) ds) (transport (λ zs. DefsGo notes ws at v0 fs0 ds0 i v fs (defs_of zs)) (next_of ds i d lt is) h)
+  defs_on i v fs ds d h lt is = one_def i v fs d (drop (i + 1) ds) (transport (λ zs. DefsGo notes ws at v0 fs0 ds0 i v fs (defs_of zs)) (next_is ds i d lt is) h)
 
   -- there is a place for the function
   pub def_room : (i : ℕ) (v : Scope × List ℕ) (fs : List Function) (ds : List AnfDef) (d : AnfDef) → DefsGo notes ws at v0 fs0 ds0 i v fs (defs_of (drop i ds)) → i < length ds → d ≡ get_or ds i d →
@@ -141,7 +142,7 @@ module _ (notes : List (List ℕ)) (ws : List ℕ) (at : ℕ) (v0 : Scope × Lis
       let m = length-append h.done (blanks (def_count (defs_of (drop i ds))) ++ h.inside) in
       let l = length-append (blanks (def_count (defs_of (drop i ds)))) h.inside in
       let b = blanks_length (def_count (defs_of (drop i ds))) in
-      let c : def_count (defs_of (drop i ds)) ≡ suc (length (drop (i + 1) ds)) = defs_of_count (drop i ds) ∙ ap length (next_of ds i d lt is) in
+      let c : def_count (defs_of (drop i ds)) ≡ suc (length (drop (i + 1) ds)) = defs_of_count (drop i ds) ∙ ap length (next_is ds i d lt is) in
       let x = h.first in
       let y = h.count in
       omega arith

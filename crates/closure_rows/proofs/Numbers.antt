@@ -1,12 +1,8 @@
--- Natural numbers as data, and where blocks may begin.
-use Rattle.std.proofs.Common.{◌≡◌, ℕ, zero, suc, ◌+◌, ◌*◌, ◌/◌, ◌%◌, ◌<◌, ◌≤◌, ◌^◌, List, [], ◌∷◌, ◌++◌, length, replicate, Some, sym, ap, subst, arith, length-append, ◌∙◌}
+-- Natural numbers as data.
+use Rattle.std.proofs.Common.{◌≡◌, ℕ, zero, suc, ◌+◌, ◌<◌, ◌≤◌, ◌^◌, List, [], ◌∷◌, ◌++◌, length, replicate, sym, ap, subst, arith, length-append, ◌∙◌}
 use Rattle.std.proofs.lemmas.List.{replicate-append-replicate, length-replicate}
-use Rattle.wasm_core.specs.declared.entries.Entry.TheVariants.{Heap}
-use Rattle.wasm_core.specs.Parts.{Parts}
-use Rattle.wasm_core.specs.MachineStep.{Store}
-use Rattle.wasm_core.specs.Answer.{global_of}
 use Rattle.data_trees.specs.Preorder.{IsTree}
-use Rattle.mem_value.specs.Storing.{HasHeap, IsSmallData}
+use Rattle.mem_value.specs.Storing.{IsSmallData}
 
 abbrev pub successor : ℕ × ℕ
 successor = (1, 1)
@@ -34,9 +30,3 @@ is_few nodes n e le =
 
 pub one_more : (n : ℕ) → replicate n successor ++ successor ∷ [] ≡ replicate (n + 1) successor
 one_more n = replicate-append-replicate n 1 successor
-
-pub heap_is : (m : Parts) (s : Store) (heap : ℕ) → global_of Heap m s ≡ Some heap → heap % 4 ≡ 0 → 0 < heap → heap ≤ length s.memory → HasHeap m s
-heap_is m s heap e quarter there inside = record { heap = heap; is = e; quarter = heap / 4; aligned = whole heap quarter; there = there; inside = inside }
-  where
-    whole : (n : ℕ) → n % 4 ≡ 0 → n ≡ 4 * (n / 4)
-    whole n e = omega (arith, e)

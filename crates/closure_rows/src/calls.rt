@@ -55,7 +55,7 @@ fn arguments_of(alloc: Global, text: &str) -> Result<Vec<Data>, Fault>
 }
 
 /// Whether blocks may begin at `heap`: it is a multiple of 4 other than 0, at most the memory's size.
-#[tactic(auto, using(crate::proofs::Numbers::heap_is))]
+#[tactic(auto, using(mem_value::proofs::Heaps::heap_is))]
 fn may_begin(machine: &Machine) -> bool
     requires for_call { IsForCall machine.now.program }
     ensures heap { result ≡ true → machine.now.failed ≡ false → HasHeap machine.now.program (store_of machine.now.state) }

@@ -1,6 +1,6 @@
 -- The answers of a job, from what its stages say.
 use Rattle.std.proofs.Common.{◌≡◌, ℕ, List, Result, Ok, Err, ◌⊎◌, inl, inr, refl, sym, subst}
-use Rattle.std.specs.Prelude.{IfOk, IfErr, OnOk, IsErrAnd}
+use Rattle.std.specs.Prelude.{IfOk, IfErr, IsErrAnd}
 use Rattle.dump_reader.specs.declared.environment.RawEnv.{RawEnv}
 use Rattle.command_line.specs.declared.job.Job.{Job}
 use Rattle.command_line.specs.declared.job.Job.TheVariants.{Cert, Check, Run, Explain, Call, Verify}
@@ -58,8 +58,3 @@ exit_at Q (Err y) x same h = subst (λ z. Q (Err z)) (sym same) h
 
 pub exit_says : {V : Type 0} (view : V → List ℕ) (job : Job) (q : Request) (r : Result V Refusal) (x : Refusal) (bytes : List ℕ) → IsErrAnd r (λ y. y ≡ x) → RefusalSays job q x bytes → JobSays job q view r bytes
 exit_says view job q r x bytes same h = exit_at (λ z. JobSays job q view z bytes) r x same h
-
--- what holds anyway holds of an answer
-pub ok_anyway : {T E P : Type 0} (r : Result T E) → P → OnOk r P
-ok_anyway (Ok v) p = p
-ok_anyway (Err e) p = tt

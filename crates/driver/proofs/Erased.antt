@@ -38,7 +38,8 @@ use Rattle.driver.specs.ErasureParts.{HaltSays}
 use Rattle.driver.specs.ExecEnds.{erasure_of, ErasureSays}
 use Rattle.driver.proofs.Checking.{declared_name_there}
 use Rattle.driver.proofs.Limited.{length-map}
-use Rattle.driver.proofs.Kept.{has_mapped, has_reversed, has_place, from_map}
+use Rattle.driver.proofs.Kept.{has_reversed, has_place}
+use Rattle.calculus_rules.proofs.Listing.{has_map, from_map}
 
 -- a constant that is kept was read, and its name stands in the table
 
@@ -49,7 +50,7 @@ given_name (raw.Block k ps fs) = refl
 pub constant_name_there : (e : RawEnv) → IsSpelled e → (E : Env) (T : Term) → IsCheckedEnvironment e.levels e.constraints (givens e) e.main E T →
     (k : Name) (A : Term) (b : Option Term) → KeepsConstant E k A b → (text : List ℕ) × IsTableName e k.0 text
 constant_name_there e spelled E T checked k A b has =
-    let given = has_place plain_given (givens e) (has_reversed (map plain_given (givens e)) (Constant k A b) (subst (λ xs. Has xs (Constant k A b)) checked.declarations (has_mapped plain has))) in
+    let given = has_place plain_given (givens e) (has_reversed (map plain_given (givens e)) (Constant k A b) (subst (λ xs. Has xs (Constant k A b)) checked.declarations (has_map plain has))) in
     let decl = from_map given_of (slice_get e.decls given.0) given.1 (sym (slice_get-map given_of e.decls given.0) ∙ given.2) in
     let same : name_of decl.0 ≡ k = sym (given_name decl.0) ∙ ap (λ x. kept_name (plain_given x)) (sym decl.2) ∙ ap kept_name given.3 in
     let there = declared_name_there e spelled given.0 decl.0 decl.1 in

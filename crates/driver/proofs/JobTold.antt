@@ -25,8 +25,8 @@ use Rattle.driver.specs.ReportedFacts.{facts_of}
 use Rattle.driver.specs.Serve.{AcceptSays}
 use Rattle.driver.specs.SourceEnds.{IsAcceptedWith}
 use Rattle.driver.specs.Texts.{SpellsWithin}
-use Rattle.driver.proofs.Answering.{ok_anyway}
 use Rattle.driver.proofs.CallSaying.{reading}
+use Rattle.module_run.proofs.CallEnding.{told_anyway}
 
 module _ {X : Type 0} (shown : X → Shown) where
   -- where the check accepts, the facts that it noted
@@ -81,4 +81,4 @@ module _ {X : Type 0} (shown : X → Shown) where
 
     -- by `verify` there are none
     pub of_verify : (job : Job) → job ≡ Verify → {V E : Type 0} (r : Result V E) (reports : List X) → OnOk r (JobIsTold shown job q bytes reports reports)
-    of_verify job is r reports = ok_anyway r ([], subst (λ j. AreJobFacts j q bytes []) (sym is) refl, all_told_none shown reports)
+    of_verify job is r reports = told_anyway r ([], subst (λ j. AreJobFacts j q bytes []) (sym is) refl, all_told_none shown reports)

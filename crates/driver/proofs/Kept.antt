@@ -1,5 +1,5 @@
 -- What is kept by an environment that is accepted was read: main's constructor, with its name in the table.
-use Rattle.std.proofs.Common.{◌≡◌, ℕ, suc, ◌<◌, ◌≤◌, List, [], ◌∷◌, ◌++◌, map, length, reverse, Option, Some, None, refl, sym, ap, subst, ◌∙◌, ◌⊎◌, inl, inr, arith}
+use Rattle.std.proofs.Common.{◌≡◌, ℕ, suc, ◌<◌, ◌≤◌, List, [], ◌∷◌, ◌++◌, map, length, reverse, Some, refl, sym, ap, subst, ◌∙◌, ◌⊎◌, inl, inr, arith}
 use Rattle.std.specs.Prelude.{slice_get, option_map}
 use Rattle.std.proofs.lemmas.List.{reverse-append}
 use Rattle.std.proofs.lemmas.Option.{slice_get-map, slice_get_within}
@@ -30,8 +30,10 @@ use Rattle.dump_reader.specs.declared.environment.RawEnv.{RawEnv}
 use Rattle.dump_reader.specs.NumberedEnvironment.{numbered_ctor, numbered_family, numbered_decl}
 use Rattle.driver.specs.Texts.{SpellsWithin}
 use Rattle.driver.specs.Judged.{IsTableName, name_of}
-use Rattle.driver.proofs.Limited.{both, few-declared}
+use Rattle.driver.proofs.Limited.{few-declared}
 use Rattle.driver.proofs.Uses.{decl_name, declaration_named, constructor_named}
+use Rattle.calculus_rules.proofs.Listing.{has_map, from_map}
+use Rattle.dump_grammar.proofs.NoLimit.{none_both}
 
 -- a constructor that has a type is kept
 
@@ -46,10 +48,6 @@ kept_constructor (construct {F = F} {C = C} k e) = record { family = F; keeps = 
 kept_constructor (conv p b q) = kept_constructor p
 
 -- members of lists
-
-pub has_mapped : {X Y : Type 0} (g : X → Y) {xs : List X} {x : X} → Has xs x → Has (map g xs) (g x)
-has_mapped g here = here
-has_mapped g (there h) = there (has_mapped g h)
 
 has_parts : {X : Type 0} (xs ys : List X) {z : X} → Has (xs ++ ys) z → Has xs z ⊎ Has ys z
 has_parts [] ys h = inr h
@@ -72,10 +70,6 @@ pub has_place : {X Y : Type 0} (g : X → Y) (xs : List X) {y : Y} → Has (map 
 has_place g [] h = elim h [ ]
 has_place g (x ∷ xs) here = (0, x, refl, refl)
 has_place g (x ∷ xs) (there h) = let r = has_place g xs h in (suc r.0, r.1, r.2, r.3)
-
-pub from_map : {X Y : Type 0} (g : X → Y) (o : Option X) (y : Y) → option_map g o ≡ Some y → (x : X) × (o ≡ Some x) × (y ≡ g x)
-from_map g None y e = absurd cc
-from_map g (Some x) y e = let q : y ≡ g x = cc in (x, refl, q)
 
 -- the item of a list at whose place another list has an item of the same image
 same_place : {X Y Z : Type 0} (g : X → Z) (h : Y → Z) (xs : List X) (ys : List Y) (i : ℕ) (x : X) → map g xs ≡ map h ys → slice_get xs i ≡ Some x →
@@ -137,7 +131,7 @@ read_block e f n i (raw.Block k ps fs) B G C at same family ctor =
 pub was_read : (e : RawEnv) (E : Env) (T : Term) → IsCheckedEnvironment e.levels e.constraints (givens e) e.main E T →
     (f : FamilyId) (n : ℕ) (F : FamilyDecl) (C : Constructor) → KeepsFamily E f F → slice_get F.constructors n ≡ Some C → WasRead e f n C
 was_read e E T checked f n F C (B, has, name, at) ctor =
-    let given = has_place plain_given (givens e) (has_reversed (map plain_given (givens e)) (Whole (plain_block B)) (subst (λ xs. Has xs (Whole (plain_block B))) checked.declarations (has_mapped plain has))) in
+    let given = has_place plain_given (givens e) (has_reversed (map plain_given (givens e)) (Whole (plain_block B)) (subst (λ xs. Has xs (Whole (plain_block B))) checked.declarations (has_map plain has))) in
     let decl = from_map given_of (slice_get e.decls given.0) given.1 (sym (slice_get-map given_of e.decls given.0) ∙ given.2) in
     let family = from_map (with_parameters B.params) (slice_get B.families f.family) F at in
     let G : Family = family.0 in
@@ -191,8 +185,8 @@ module _ (bytes : List ℕ) (e : RawEnv) (s : SpellsWithin bytes e) where
       let ctors : f.ctors ≡ map (numbered_ctor ns ls) g.ctors = ap (λ x. x.ctors) one.2 in
       let two = from_map (numbered_ctor ns ls) (slice_get g.ctors n) c (sym (slice_get-map (numbered_ctor ns ls) g.ctors n) ∙ ap (λ xs. slice_get xs n) (sym ctors) ∙ ctor) in
       let number : c.name.0 ≡ place_of two.0.name ns = ap (λ x. x.name.0) two.2 in
-      let over = (both (constraints_over 0 s.form.constraints) (declarations_over 0 s.form.decls s.form.main)
-      (both (levels_over 0 s.form.levels) (first (constraints_over 0 s.form.constraints) (declarations_over 0 s.form.decls s.form.main)) s.within.1).1).1 in
+      let over = (none_both (constraints_over 0 s.form.constraints) (declarations_over 0 s.form.decls s.form.main)
+      (none_both (levels_over 0 s.form.levels) (first (constraints_over 0 s.form.constraints) (declarations_over 0 s.form.decls s.form.main)) s.within.1).1).1 in
       let many : length g.ctors ≤ 1024 = few-declared s.form.decls 0 i j s.form.main k' qs gs g at one.1 over in
       let below : n < length g.ctors = slice_get_within g.ctors n two.0 two.1 in
       record {

@@ -88,15 +88,6 @@ pub part_by_history : {T : Type 0} (a b : Option (List ℕ)) (xs ys : List ℕ) 
 part_by_history a b xs ys (Ok v) part told history = tt
 part_by_history a b xs ys (Err f) part told history = (told.0, history)
 
--- An object that tells its bytes after two calls in a row where it did before.
-pub tells_then : (a b c : Option (List ℕ)) → StillTells a b → StillTells b c → StillTells a c
-tells_then None None None h k = tt
-tells_then (Some x) (Some y) (Some z) h k = tt
-tells_then None (Some y) c h k = absurd h
-tells_then (Some x) None c h k = absurd h
-tells_then None None (Some z) h k = absurd k
-tells_then (Some x) (Some y) None h k = absurd k
-
 -- One that no call touches does.
 pub tells_same : (a : Option (List ℕ)) → StillTells a a
 tells_same None = tt

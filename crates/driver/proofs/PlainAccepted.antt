@@ -30,8 +30,8 @@ use Rattle.calculus_rules.specs.Instances.{constructor_type}
 use Rattle.pc_rules.specs.Entailment.{entailed_by}
 use Rattle.pc_rules.proofs.WeakNext.{same_names_is, none_some, if_some_is}
 use Rattle.calculus_rules.proofs.Spines.{one_item}
-use Rattle.rule_laws.proofs.Runs.{bind_both, ticking_done, refused_done, done_value}
-use Rattle.rule_laws.proofs.SimpleRules.{some_none, whole_family}
+use Rattle.rule_laws.proofs.Runs.{bind_both, ticking_done, refused_done}
+use Rattle.rule_laws.proofs.SimpleRules.{some_none, whole_family, constructor_is}
 use Rattle.erase_rules.proofs.Program.{gives_both, outcome_done}
 use Rattle.inductive_check.specs.Given.{ctor_of, family_of as read_family, block_of, given_of}
 use Rattle.dump_reader.specs.declared.declaration.RawCtor.{RawCtor}
@@ -43,8 +43,9 @@ use Rattle.driver.specs.Plain.{IsEnumerationBlock, IsPlainOf}
 use Rattle.driver.specs.SourceEnds.{IsAcceptedWith}
 use Rattle.driver.specs.Answerable.{HasDistinctConstructors, HasDistinctNames, DeclaresConstructor, IsAnswerable}
 use Rattle.driver.proofs.Accepting.{IsNone, IsOtherCtor, IsOther, IsNewIn, AreNew, enumeration, enumeration_block, block_is, keep, all_kept, kept_name, one_passes, only_one, at_place}
-use Rattle.driver.proofs.Kept.{from_map}
 use Rattle.driver.proofs.SourceCauses.{plainly}
+use Rattle.calculus_rules.proofs.Listing.{from_map}
+use Rattle.rule_laws.proofs.Environments.{name_is_new}
 
 true_is_false : {A : Type 0} → true ≡ false → A
 true_is_false e = cc
@@ -77,10 +78,6 @@ names_apart before (c ∷ cs) u v h = name_apart before c cs u v (has_name c.nam
 
 -- ---- a declaration
 
-is_fresh : (o : Option Kept) (k : Name) (u v : Account) → (fresh_name o k u).end ≡ run.Done tt v → o ≡ None
-is_fresh None k u v h = refl
-is_fresh (Some d) k u v h = absurd (refused_done h)
-
 module _ (E : Env) (q : Test) (n : ℕ) (k l : Name) (cs : List RawCtor) where
   abbrev B : Block
   B = block_of (enumeration_block k l cs)
@@ -104,7 +101,7 @@ module _ (E : Env) (q : Test) (n : ℕ) (k l : Name) (cs : List RawCtor) where
   declared u v K h =
       let a = bind_both (fresh_name (kept_at E.declarations k) k u) (λ _ x. bind (block_rule E q n B x) (λ D w. done (Whole D) w)) K v h in
       let b = bind_both (block_rule E q n B a.1) (λ D w. done (Whole D) w) K v a.3 in
-      (is_fresh (kept_at E.declarations k) k u a.1 a.2, ctors_apart a.1 b.1 b.0 b.2)
+      (name_is_new (kept_at E.declarations k) k u a.1 a.2, ctors_apart a.1 b.1 b.0 b.2)
 
 one_declared : (E : Env) (q : Test) (n : ℕ) (d : RawDecl) (u v : Account) (K : Kept) → IsEnumerationBlock d → (declaration_rule E q n (given_of d) u).end ≡ run.Done K v →
     (kept_at E.declarations (name_of d) ≡ None) × HasDistinctNames d
@@ -178,10 +175,6 @@ read_alone ds k x h = elim (was_kept [] ds k x h) [ inl r ↦ r | inr e ↦ absu
 
 -- ---- main
 
-number_there : (F : FamilyDecl) (n : ℕ) (o : Option Constructor) (C : Constructor) (u v : Account) → (constructor_number F n o u).end ≡ run.Done C v → o ≡ Some C
-number_there F n None C u v h = absurd (refused_done h)
-number_there F n (Some D) C u v h = ap Some (done_value h)
-
 record IsThere (E : Env) (f : FamilyId) (c : ℕ) : Type 0 where
   family : FamilyDecl
   kept : family_of E f ≡ Some family
@@ -201,7 +194,7 @@ main_there E q m f c G T u v h =
       family = x.0;
       kept = whole_family E f x.0 w x.1 x.2;
       ctor = y.0;
-      at = number_there x.0 c (slice_get x.0.constructors c) y.0 x.1 y.1 y.2;
+      at = constructor_is x.0 c (slice_get x.0.constructors c) y.0 x.1 y.1 y.2;
     }
 
 -- ---- the whole

@@ -42,10 +42,10 @@ use Rattle.driver.specs.SourceSays.{ShapesSay}
 use Rattle.driver.specs.Serve.{IsCheckCause, IsSure}
 use Rattle.driver.proofs.Accepting.{all_kept, at_place, answerable_rules, answerable_ends, answerable_keeps}
 use Rattle.driver.proofs.CheckCauses.{cause_status, not_zero}
-use Rattle.driver.proofs.Kept.{from_map}
 use Rattle.driver.proofs.MadeCauses.{is_written}
 use Rattle.driver.proofs.SourceCauses.{plainly, accepts_inj}
 use Rattle.driver.proofs.ExecCauses.{search_status, shapes_status, erasure_status, erased_status, not_passed, refused, of_run, no_text_of, set_in, account_in, program_in}
+use Rattle.calculus_rules.proofs.Listing.{from_map}
 
 -- ---- the name of a text of one constructor
 

@@ -1,7 +1,7 @@
 -- What the stages of `eval` say, as what its run shows.
-use Rattle.std.proofs.Common.{◌≡◌, ℕ, List, map, Some, slice_get, IsTrue, Result, Ok, Err, ◌⊎◌, inl, inr, refl, sym, ap, subst, ◌∙◌}
-use Rattle.std.specs.Prelude.{All, option_map, IfOk, IfErr}
-use Rattle.std.proofs.lemmas.Option.{slice_get-map, slice_get_within, get_or_from_slice_get}
+use Rattle.std.proofs.Common.{◌≡◌, ℕ, List, map, Some, slice_get, Result, Ok, Err, ◌⊎◌, inl, inr, refl, sym, ap, subst, ◌∙◌}
+use Rattle.std.specs.Prelude.{option_map, IfOk, IfErr}
+use Rattle.std.proofs.lemmas.Option.{slice_get-map, slice_get_within}
 use Rattle.pc_terms.specs.Syntax.{Term}
 use Rattle.pc_rules.specs.declared.meter.Account.{Account}
 use Rattle.calculus_rules.specs.Environment.{Env}
@@ -10,7 +10,7 @@ use Rattle.calculus_rules.specs.FirstOrder.{Shape as Member, IsFirstOrder}
 use Rattle.pc_rules.specs.DirectedRun.{Run, Done, NoUnit, bind, end_then}
 use Rattle.pc_rules.specs.DirectedEvaluation.{Evaluated, Value, Stuck, evaluation}
 use Rattle.pc_rules.specs.DirectedFirstOrder.{Searched, Found, NotFirstOrder, TooManyTypes, first_order_search}
-use Rattle.pc_rules.proofs.Following.{bind_end, bind_deep, or_left}
+use Rattle.pc_rules.proofs.Following.{bind_end, bind_deep}
 use Rattle.rule_laws.specs.Declarations.{IsCheckedEnvironment}
 use Rattle.env_check.specs.Rules.{givens}
 use Rattle.first_order.specs.declared.shapes.Shape.{Shape}
@@ -28,17 +28,16 @@ use Rattle.driver.specs.SourceEnds.{Ended, IsRead, read_value, with_set, source_
 use Rattle.driver.specs.SourceSays.{ShapesSay, ValueSays, DataSays, IsLine}
 use Rattle.driver.specs.EvaluatedSource.{IsEvaluated}
 use Rattle.driver.specs.Serve.{JobSays, RefusalSays}
-use Rattle.driver.proofs.Kept.{was_read, named_ctor, from_map}
+use Rattle.driver.proofs.Kept.{was_read, named_ctor}
+use Rattle.calculus_rules.proofs.Listing.{from_map}
+use Rattle.driver.proofs.Accepting.{at_place}
+use Rattle.lazy_conversion.proofs.Tracking.{first_deep}
 
 -- the first of two runs has no unit left, or passes a limit
 
 no_unit_first : {A B : Type 0} (d : Run A) (k : A → Account → Run B) → d.end ≡ NoUnit → (bind d k).end ≡ NoUnit
 unfolding bind
 no_unit_first d k e = ap (λ x. end_then x (λ a u. (k a u).end)) e
-
-deep_first : {A B : Type 0} (d : Run A) (k : A → Account → Run B) → IsTrue d.deep → IsTrue (bind d k).deep
-unfolding bind
-deep_first d k h = or_left d.deep _ h
 
 module _ (E : Env) (t T : Term) (u : Account) where
   abbrev search : Run (Searched (List Member))
@@ -48,7 +47,7 @@ module _ (E : Env) (t T : Term) (u : Account) where
   of_shapes refusals.NotFirstOrder w (W, e) = inr (W, bind_end search (with_set E t) (NotFirstOrder W) w e)
   of_shapes refusals.Types w e = inr (bind_end search (with_set E t) TooManyTypes w e)
   of_shapes refusals.TurnsSpent w e = inr (no_unit_first search (with_set E t) e)
-  of_shapes refusals.Depth w h = inr (deep_first search (with_set E t) h)
+  of_shapes refusals.Depth w h = inr (first_deep search (with_set E t) h)
   of_shapes refusals.Memory w h = inl refl
   of_shapes _ w h = absurd h
 
@@ -62,7 +61,7 @@ module _ (E : Env) (t T : Term) (u : Account) where
     pub of_value : (r : Refusal) (w : Account) → ValueSays E t v (Err r) w → (r ≡ refusals.Memory) ⊎ ShowsEnd r (source_rule E t T u) w
     of_value refusals.Stuck w (s, e) = inr (inl (s, rest ∙ bind_end value (read_value S) (Stuck s) w e))
     of_value refusals.TurnsSpent w e = inr (rest ∙ no_unit_first value (read_value S) e)
-    of_value refusals.Depth w h = inr (bind_deep search (with_set E t) (Found S) v found (deep_first value (read_value S) h))
+    of_value refusals.Depth w h = inr (bind_deep search (with_set E t) (Found S) v found (first_deep value (read_value S) h))
     of_value refusals.Memory w h = inl refl
     of_value _ w h = absurd h
 
@@ -86,9 +85,6 @@ module _ (E : Env) (t T : Term) (u v w : Account) (hs : List Shape) (named : Are
   ends_well ds e = ap source_status (read_as (Read ds) e)
 
 -- ---- the names of the constructors of types that are found stand in the table
-
-at_place : {X : Type 0} (P : X → Type 0) (xs : List X) (i : ℕ) (x : X) → slice_get xs i ≡ Some x → All P xs → P x
-at_place P xs i x e h = subst P (get_or_from_slice_get xs i x x e) (h i x (slice_get_within xs i x e))
 
 pub names_there : (bytes : List ℕ) (e : RawEnv) (E : Env) (T : Term) → SpellsWithin bytes e → IsCheckedEnvironment e.levels e.constraints (givens e) e.main E T →
     (hs : List Shape) → AreNamed E hs → HasNames hs e.names

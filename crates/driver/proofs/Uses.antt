@@ -1,19 +1,12 @@
 -- Names that are used stand among the uses of the whole.
-use Rattle.std.proofs.Common.{◌≡◌, ℕ, zero, suc, List, [], ◌∷◌, Option, Some, None, Bool, true, false, ◌||◌, refl, sym, subst}
+use Rattle.std.proofs.Common.{◌≡◌, ℕ, zero, suc, List, [], ◌∷◌, Option, Some, None, true, refl, sym, subst}
 use Rattle.std.specs.Prelude.{slice_get, bytes_eq}
 use Rattle.std.proofs.lemmas.Slice.Eq.{bytes_eq-Decides}
 use Rattle.dump_grammar.specs.Named.{Named, Rel, Sort, Prod, Lambda, LetIn, App, Const, Ind, Construct, Case, Fix, NamedTerms, NoTerm, OneTerm, NamedBranches, NoBranch, OneBranch, NamedDefs, NoDef, OneDef, NamedCtor, NamedFamily, NamedDecl, Constant, Block, NamedEnv}
 use Rattle.dump_grammar.specs.Uses.{names, names_of_terms, names_of_branches, names_of_defs, each, names_of_option, names_of_ctor, names_of_family, names_of_decl, name_uses}
 use Rattle.dump_grammar.specs.Numbering.{is_in, place_of, text_at, name_table}
 use Rattle.dump_grammar.proofs.Numbering.{numbering}
-
-or_true : (x y : Bool) → y ≡ true → (x || y) ≡ true
-or_true true y e = refl
-or_true false y e = e
-
-or_left : (x y : Bool) → x ≡ true → (x || y) ≡ true
-or_left true y e = refl
-or_left false y e = absurd cc
+use Rattle.std.proofs.lemmas.Bool.{or_right, or_left}
 
 here : (a b : List ℕ) (us : List (List ℕ)) → a ≡ b → is_in a (b ∷ us) ≡ true
 unfolding is_in
@@ -21,7 +14,7 @@ here a b us e = or_left (bytes_eq a b) (is_in a us) ((bytes_eq-Decides a b).1 e)
 
 later : (a b : List ℕ) (us : List (List ℕ)) → is_in a us ≡ true → is_in a (b ∷ us) ≡ true
 unfolding is_in
-later a b us h = or_true (bytes_eq a b) (is_in a us) h
+later a b us h = or_right (bytes_eq a b) (is_in a us) h
 
 module _ (a : List ℕ) where
   mutual

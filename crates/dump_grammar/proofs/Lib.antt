@@ -11,3 +11,4 @@ pub mod RefusedTexts
 pub mod AcceptedTexts
 pub mod Verdicts
 pub mod CountedTexts
+pub mod NoLimit

@@ -1,11 +1,9 @@
 -- Numbers by first use.
 use Rattle.std.proofs.Common.{◌≡◌, ℕ, zero, suc, List, [], ◌∷◌, ◌++◌, Some, Bool, true, false, cond, refl, sym, ap, subst, ◌∙◌, append-nil}
 use Rattle.std.specs.Prelude.{bytes_eq, ◌||◌}
-use Rattle.std.specs.Cmp.Lexicographic.{nat_list_eq_equiv, same_text}
+use Rattle.std.specs.Cmp.Lexicographic.{nat_list_eq_equiv}
 use Rattle.dump_grammar.specs.Numbering.{without, firsts, is_in, place_of, text_at, IsNumbering}
-
-same : (a b : List ℕ) → bytes_eq a b ≡ true → a ≡ b
-same a b e = same_text a b (sym e)
+use Rattle.dump_grammar.proofs.Words.{same_bytes}
 
 itself : (a : List ℕ) → bytes_eq a a ≡ true
 itself a = nat_list_eq_equiv.refl a
@@ -17,10 +15,10 @@ turned a b =
     let on : (x y : Bool) → P x y = λ x y. elim x as (λ x. P x y) [
       | true ↦ elim y as (λ y. P true y) [
         | true ↦ λ e f. refl
-        | false ↦ λ e f. (let g : bytes_eq b a ≡ true = subst (λ c. bytes_eq c a ≡ true) (same a b e) (itself a) in absurd cc)
+        | false ↦ λ e f. (let g : bytes_eq b a ≡ true = subst (λ c. bytes_eq c a ≡ true) (same_bytes a b e) (itself a) in absurd cc)
       ]
       | false ↦ elim y as (λ y. P false y) [
-        | true ↦ λ e f. (let g : bytes_eq a b ≡ true = subst (λ c. bytes_eq c b ≡ true) (same b a f) (itself b) in absurd cc)
+        | true ↦ λ e f. (let g : bytes_eq a b ≡ true = subst (λ c. bytes_eq c b ≡ true) (same_bytes b a f) (itself b) in absurd cc)
         | false ↦ λ e f. refl
       ]
     ] in
@@ -30,7 +28,7 @@ turned a b =
 module _ (a b c : List ℕ) where
   apart : bytes_eq a b ≡ true → bytes_eq c b ≡ false → bytes_eq a c ≡ false
   apart e f =
-      let h : bytes_eq c a ≡ false = subst (λ x. bytes_eq c x ≡ false) (sym (same a b e)) f in
+      let h : bytes_eq c a ≡ false = subst (λ x. bytes_eq c x ≡ false) (sym (same_bytes a b e)) f in
       turned a c ∙ h
 
 -- ---- what stands in a list without a text
@@ -41,7 +39,7 @@ in-without a b [] e = refl
 in-without a b (c ∷ cs) e =
     let P : Bool → Type 0 = λ x. bytes_eq c b ≡ x → is_in a (cond x (without b cs) (c ∷ without b cs)) ≡ (bytes_eq a c || is_in a cs) in
     let on : (x : Bool) → P x = λ x. elim x as P [
-      | true ↦ λ f. (let g : bytes_eq a c ≡ false = subst (λ y. bytes_eq a y ≡ false) (sym (same c b f)) e in rw g (in-without a b cs e))
+      | true ↦ λ f. (let g : bytes_eq a c ≡ false = subst (λ y. bytes_eq a y ≡ false) (sym (same_bytes c b f)) e in rw g (in-without a b cs e))
       | false ↦ λ f. ap (λ y. bytes_eq a c || y) (in-without a b cs e)
     ] in
     on (bytes_eq c b) refl
@@ -106,7 +104,7 @@ text-of-place [] a e = absurd cc
 text-of-place (b ∷ bs) a e =
     let P : Bool → Type 0 = λ x. bytes_eq a b ≡ x → (x || is_in a bs) ≡ true → text_at (cond x 0 (suc (place_of a bs))) (b ∷ bs) ≡ Some a in
     let on : (x : Bool) → P x = λ x. elim x as P [
-      | true ↦ λ f e. ap Some (sym (same a b f))
+      | true ↦ λ f e. ap Some (sym (same_bytes a b f))
       | false ↦ λ f e. text-of-place bs a e
     ] in
     on (bytes_eq a b) refl e
@@ -124,7 +122,7 @@ place-of-text (b ∷ bs) zero a h e = (let at : b ≡ a = cc in rw (subst (λ c.
 place-of-text (b ∷ bs) (suc n) a h e =
     let P : Bool → Type 0 = λ x. bytes_eq a b ≡ x → cond x 0 (suc (place_of a bs)) ≡ suc n in
     let on : (x : Bool) → P x = λ x. elim x as P [
-      | true ↦ λ f. (let g : is_in b bs ≡ true = subst (λ c. is_in c bs ≡ true) (same a b f) (text-is_in bs n a e) in let k : is_in b bs ≡ false = h.0 in absurd cc)
+      | true ↦ λ f. (let g : is_in b bs ≡ true = subst (λ c. is_in c bs ≡ true) (same_bytes a b f) (text-is_in bs n a e) in let k : is_in b bs ≡ false = h.0 in absurd cc)
       | false ↦ λ f. ap (λ m. suc m) (place-of-text bs n a h.1 e)
     ] in
     on (bytes_eq a b) refl

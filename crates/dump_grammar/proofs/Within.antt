@@ -30,6 +30,7 @@ use Rattle.dump_grammar.specs.Within.{parts_over, sort_over, form_over, forms_ov
 use Rattle.dump_grammar.proofs.Words.{word-is, former-is, comparison-is, opening-is, set-isn't-prop}
 use Rattle.dump_grammar.proofs.Values.{counted, with_arguments, with_terms, with_branches, with_parts, with_body, counted-value, arguments-value, terms-value, branches-value, definitions-number, parts-value}
 use Rattle.dump_grammar.proofs.Language.{index-is}
+use Rattle.dump_grammar.proofs.NoLimit.{none_both}
 
 first-first : (a b c : Option Limit) → first (first a b) c ≡ first a (first b c)
 first-first None b c = refl
@@ -217,10 +218,6 @@ dump-passed d =
 
 -- ---- the verdict
 
-both-none : (a b : Option Limit) → first a b ≡ None → (a ≡ None) × (b ≡ None)
-both-none None b e = (refl, e)
-both-none (Some l) b e = absurd cc
-
 abbrev Quiet : ℕ → List Item → List Value → List Text → Type 0
 Quiet d is vs ts = (tokens_over d ts ≡ None) × (passed is vs ts ≡ None)
 
@@ -257,7 +254,7 @@ module _ (len : ℕ) where
   quiet [] d (i ∷ is) vs ws e q = absurd cc
   quiet (s ∷ ss) d [] vs ws e q = absurd cc
   quiet (s ∷ ss) d (i ∷ is) vs ws e (tokens, items) =
-      let (token, more) = both-none (token_over d s.text) (tokens_over (nesting_after_text d s.text) (texts ss)) tokens in
+      let (token, more) = none_both (token_over d s.text) (tokens_over (nesting_after_text d s.text) (texts ss)) tokens in
       let d' : ℕ = nesting_after_text d s.text in
       let go : List Item → List Value → Verdict = λ js xs. judge len ss d' (js ++ is) xs in
       let none : ReadRefusal = unread (foreign i s.text) s.start in
@@ -266,7 +263,7 @@ module _ (len : ℕ) where
       let on : (m : Moved) → P m = λ m. elim m as P [
         | None ↦ λ at e q. absurd cc
         | Some m ↦ λ at e q.
-            let (here, after') = both-none (over i s.text vs (texts ss)) (passed (m.0 ++ is) m.1 (texts ss)) q in
+            let (here, after') = none_both (over i s.text vs (texts ss)) (passed (m.0 ++ is) m.1 (texts ss)) q in
             let taken : s.text ≡ Stray → ⊥ = λ stray. (let no : Some m ≡ None = sym at ∙ subst (λ t. step i t vs ≡ None) (sym stray) (no-stray i vs) in cc) in
             token-quiet d s.start s.text (moved (Some m) none (over i s.text vs (texts ss)) s.start go) ws token taken
             ∙ ap (λ l. moved (Some m) none l s.start go) here

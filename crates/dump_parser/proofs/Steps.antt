@@ -20,9 +20,7 @@ use Rattle.dump_grammar.specs.Limits.{begins_declaration, is_declaration}
 use Rattle.dump_grammar.specs.Judge.{fault_refusal, texts}
 use Rattle.dump_grammar.proofs.Verdicts.{judge-end, judge-next, judge-fault, judge-do, judge-term, judge-type}
 use Rattle.dump_parser.specs.Reading.{judged, Gets, Ahead}
-
-shorter : (s : Spanned) (old new : List Spanned) → old ≡ s ∷ new → length new < length old
-shorter s old new e = rw e (omega arith)
+use Rattle.sexp_reader.proofs.Steps.{shorter}
 
 pub gets : (o : Option Token) (old new : Tokens) → Ok o ≡ answer (depth old) (stream old) → (stream new ≡ rest (stream old)) × (depth new ≡ nesting_after (depth old) (stream old)) → Gave (Ok o) (source old) (stream old) (stream new) → source new ≡ source old → Gets (Ok o) old new
 gets None old new a ok gave same = record { same = same; shorter = tt; within = tt; goes = λ is vs. judge-end _ (stream old) (depth old) is vs gave.0 }

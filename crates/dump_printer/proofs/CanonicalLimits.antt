@@ -24,7 +24,8 @@ use Rattle.dump_printer.proofs.CanonicalForms.{numeral-of, blank, zero_numeral, 
 use Rattle.dump_printer.proofs.CanonicalTokens.{SmallParts, small-parts}
 use Rattle.dump_printer.proofs.Normal.{normal, normal_terms, normal_branches, normal_defs, canon-meaning}
 use Rattle.dump_printer.proofs.Good.{AreGood, good-length}
-use Rattle.dump_printer.proofs.Fitting.{both, rest-over, held}
+use Rattle.dump_printer.proofs.Fitting.{rest-over}
+use Rattle.dump_grammar.proofs.NoLimit.{none_both, test_holds}
 
 pub join : (a b : Option Limit) → a ≡ None → b ≡ None → first a b ≡ None
 join a b e f = ap (λ x. first x b) e ∙ f
@@ -50,7 +51,7 @@ tokens-within d (Stray ∷ ts) g h = elim g.0 [ ]
 
 shallow : (t : Named) → depth_over t ≡ None → depth t ≤ 2048
 unfolding depth_over
-shallow t e = leb-true (depth t) 2048 (held (nat_le (depth t) 2048) limits.Depth e)
+shallow t e = leb-true (depth t) 2048 (test_holds (nat_le (depth t) 2048) limits.Depth e)
 
 module _ (ls : List (List ℕ)) where
   mutual
@@ -138,7 +139,7 @@ module _ (ls : List (List ℕ)) where
   fine-parts : (ps : List LevelExpr) (xs : List PartForm) → FineParts ps → parts_over xs ≡ None → FineParts (with_parts ps (map (level_part ls) (map part_meaning xs)))
   unfolding parts_over
   fine-parts ps [] h o = h
-  fine-parts ps (x ∷ xs) h o = (let k = both _ _ o in fine-parts (with_part (level_part ls (part_meaning x)) ps) xs (fine-with (level_part ls (part_meaning x)) ps k.0 h) k.1)
+  fine-parts ps (x ∷ xs) h o = (let k = none_both _ _ o in fine-parts (with_part (level_part ls (part_meaning x)) ps) xs (fine-with (level_part ls (part_meaning x)) ps k.0 h) k.1)
 
   parts-over : (es : List LevelExpr) → SmallParts es → FineParts es → parts_over (map (part_form ls) es) ≡ None
   unfolding parts_over
@@ -162,7 +163,7 @@ module _ (ls : List (List ℕ)) where
   sort-over ns PropForm h o = refl
   sort-over ns SetForm h o = universe-over (maximum_of (map (level_part ls) ((spelling words.Set, 0) ∷ []))) (small-parts ns ls [] ((spelling words.Set, 0) ∷ []) tt h) (set-fine, tt)
   sort-over ns (TypeForm p more) h o =
-      let x = both _ _ o in
+      let x = none_both _ _ o in
       universe-over (maximum_of (map (level_part ls) (part_meaning p ∷ map part_meaning more))) (small-parts ns ls [] (part_meaning p ∷ map part_meaning more) tt h)
       (fine-parts (level_part ls (part_meaning p) ∷ []) more (x.0, tt) x.1)
 
@@ -196,29 +197,29 @@ module _ (ls : List (List ℕ)) where
       pub canon-over : (f : Form) → Fits ns ls (meaning f) → form_over f ≡ None → Over f
       canon-over (FRel n) h o = (o, λ x xs a b d. app-over (FRel n) x xs o a b d)
       canon-over (FSort s) h o =
-          let alone : form_over (canon ls (FSort s) NoForm) ≡ None = join _ _ (sort-over ns s h (both _ _ o).0) (depth-alone (FSort s) h o) in
+          let alone : form_over (canon ls (FSort s) NoForm) ≡ None = join _ _ (sort-over ns s h (none_both _ _ o).0) (depth-alone (FSort s) h o) in
           (alone, λ x xs a b d. app-over (canon ls (FSort s) NoForm) x xs alone a b d)
       canon-over (FProd na A B) h o =
-          let x = both _ _ o in
-          let y = both _ _ x.1 in
+          let x = none_both _ _ o in
+          let y = none_both _ _ x.1 in
           let alone : form_over (canon ls (FProd na A B) NoForm) ≡ None = join _ _ (canon-over A h.0 x.0).0 (join _ _ (canon-over B h.1 y.0).0 (depth-alone (FProd na A B) h o)) in
           (alone, λ x xs a b d. app-over (canon ls (FProd na A B) NoForm) x xs alone a b d)
       canon-over (FLambda na A b) h o =
-          let x = both _ _ o in
-          let y = both _ _ x.1 in
+          let x = none_both _ _ o in
+          let y = none_both _ _ x.1 in
           let alone : form_over (canon ls (FLambda na A b) NoForm) ≡ None = join _ _ (canon-over A h.0 x.0).0 (join _ _ (canon-over b h.1 y.0).0 (depth-alone (FLambda na A b) h o)) in
           (alone, λ x xs a c d. app-over (canon ls (FLambda na A b) NoForm) x xs alone a c d)
       canon-over (FLetIn na b B t) h o =
-          let x = both _ _ o in
-          let y = both _ _ x.1 in
-          let z = both _ _ y.1 in
+          let x = none_both _ _ o in
+          let y = none_both _ _ x.1 in
+          let z = none_both _ _ y.1 in
           let alone : form_over (canon ls (FLetIn na b B t) NoForm) ≡ None =
           join _ _ (canon-over b h.0 x.0).0 (join _ _ (canon-over B h.1 y.0).0 (join _ _ (canon-over t h.2 z.0).0 (depth-alone (FLetIn na b B t) h o))) in
           (alone, λ x xs a c d. app-over (canon ls (FLetIn na b B t) NoForm) x xs alone a c d)
       canon-over (FApp f a more) h o =
-          let x = both _ _ o in
-          let y = both _ _ x.1 in
-          let z = both _ _ y.1 in
+          let x = none_both _ _ o in
+          let y = none_both _ _ x.1 in
+          let z = none_both _ _ y.1 in
           let k = fit-applied ns ls (App (meaning f) (meaning a)) more h in
           let on_f = canon-over f k.0.0 x.0 in
           let on_a = canon-over a k.0.1 y.0 in (
@@ -229,27 +230,27 @@ module _ (ls : List (List ℕ)) where
       canon-over (FInd k n) h o = (o, λ x xs a b d. app-over (FInd k n) x xs o a b d)
       canon-over (FConstruct k n c) h o = (o, λ x xs a b d. app-over (FConstruct k n c) x xs o a b d)
       canon-over (FCase k n ps names ret scrut brs) h o =
-          let x = both _ _ o in
-          let y = both _ _ x.1 in
-          let z = both _ _ y.1 in
-          let w = both _ _ z.1 in
-          let q = both _ _ w.1 in
+          let x = none_both _ _ o in
+          let y = none_both _ _ x.1 in
+          let z = none_both _ _ y.1 in
+          let w = none_both _ _ z.1 in
+          let q = none_both _ _ w.1 in
           let whole = FCase k n ps names ret scrut brs in
           let alone : form_over (canon ls whole NoForm) ≡ None =
           join _ _ x.0 (join _ _ (forms-over ps h.2 y.0 NoForm refl) (join _ _ (canon-over ret h.3 z.0).0 (join _ _ (canon-over scrut h.4 w.0).0 (join _ _ (branches-over brs h.5 q.0) (depth-alone whole h o))))) in
           (alone, λ x xs a b d. app-over (canon ls whole NoForm) x xs alone a b d)
       canon-over (FFix na A b n more i below) h o =
-          let x = both _ _ o in
-          let y = both _ _ x.1 in
-          let z = both _ _ y.1 in
-          let w = both _ _ z.1 in
+          let x = none_both _ _ o in
+          let y = none_both _ _ x.1 in
+          let z = none_both _ _ y.1 in
+          let w = none_both _ _ z.1 in
           let whole = FFix na A b n more i below in
           let alone : form_over (canon ls whole NoForm) ≡ None =
           join _ _ (canon-over A h.1.0 x.0).0 (join _ _ (canon-over b h.1.1 y.0).0 (join _ _ z.0 (join _ _ (definitions-over 1 more h.1.3 w.0) (depth-alone whole h o)))) in
           (alone, λ x xs a c d. app-over (canon ls whole NoForm) x xs alone a c d)
       canon-over (FCast t kind T) h o =
-          let x = both _ _ o in
-          let y = both _ _ x.1 in
+          let x = none_both _ _ o in
+          let y = none_both _ _ x.1 in
           let on_t = canon-over t h.1 x.0 in
           let on_T = canon-over T h.0.0 y.0 in
           let inner : form_over (FLambda blank (canon ls T NoForm) (FRel zero_numeral)) ≡ None =
@@ -260,17 +261,17 @@ module _ (ls : List (List ℕ)) where
 
       pub forms-over : (fs : Forms) → FitTerms ns ls (terms_of (meanings fs)) → forms_over fs ≡ None → (args : Forms) → forms_over args ≡ None → forms_over (canon_forms ls fs args) ≡ None
       forms-over NoForm h o args k = k
-      forms-over (OneForm f more) h o args k = (let x = both _ _ o in join _ _ (canon-over f h.0 x.0).0 (forms-over more h.1 x.1 args k))
+      forms-over (OneForm f more) h o args k = (let x = none_both _ _ o in join _ _ (canon-over f h.0 x.0).0 (forms-over more h.1 x.1 args k))
 
       branches-over : (brs : BranchForms) → FitBranches ns ls (branches_of (branch_meanings brs)) → branches_over brs ≡ None → branches_over (canon_branches ls brs) ≡ None
       branches-over NoBranchForm h o = refl
-      branches-over (BranchForm names b more) h o = (let x = both _ _ o in join _ _ (canon-over b h.0 x.0).0 (branches-over more h.1 x.1))
+      branches-over (BranchForm names b more) h o = (let x = none_both _ _ o in join _ _ (canon-over b h.0 x.0).0 (branches-over more h.1 x.1))
 
       definitions-over : {m : ℕ} (n : ℕ) (ds : Definitions m) → FitDefs ns ls (defs_of (definition_meanings ds)) → definitions_over n ds ≡ None → definitions_over n (canon_definitions ls ds) ≡ None
       definitions-over n NoDefinition h o = refl
       definitions-over n (Definition na A b r more) h o =
-          let x = both _ _ o in
-          let y = both _ _ x.1 in
-          let z = both _ _ y.1 in
-          let w = both _ _ z.1 in
+          let x = none_both _ _ o in
+          let y = none_both _ _ x.1 in
+          let z = none_both _ _ y.1 in
+          let w = none_both _ _ z.1 in
           join _ _ x.0 (join _ _ (canon-over A h.0 y.0).0 (join _ _ (canon-over b h.1 z.0).0 (join _ _ w.0 (definitions-over (n + 1) more h.3 w.1))))

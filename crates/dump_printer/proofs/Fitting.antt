@@ -1,11 +1,11 @@
 -- What is within the limits, by tables that have its names and levels, fits.
-use Rattle.std.proofs.Common.{◌≡◌, ℕ, suc, ◌+◌, ◌<◌, ◌≤◌, List, [], ◌∷◌, map, Option, Some, None, Bool, true, false, ◌||◌, refl, subst, arith}
+use Rattle.std.proofs.Common.{◌≡◌, ℕ, suc, ◌+◌, ◌<◌, ◌≤◌, List, [], ◌∷◌, map, Option, None, true, false, ◌||◌, refl, subst, arith}
 use Rattle.std.specs.Prelude.{bytes_eq, nat_le, nat_lt}
 use Rattle.std.specs.Cmp.Lexicographic.{nat_list_eq_equiv}
 use Rattle.std.proofs.lemmas.Bool.{leb-true, ltb-true}
 use Rattle.dump_grammar.specs.declared.refusal.Limit.{Limit}
 use Rattle.dump_grammar.specs.declared.refusal.Limit.TheVariants as limits
-use Rattle.dump_grammar.specs.Limits.{unless, first, number_over, add_over, one_more_over}
+use Rattle.dump_grammar.specs.Limits.{first, number_over, add_over, one_more_over}
 use Rattle.dump_grammar.specs.Numbering.{is_in}
 use Rattle.dump_grammar.specs.Named.{Named, App, terms_of, branches_of, defs_of}
 use Rattle.dump_grammar.specs.Numbers.{LevelName}
@@ -18,29 +18,22 @@ use Rattle.dump_grammar.specs.Within.{parts_over, sort_over, form_over, forms_ov
 use Rattle.dump_printer.proofs.Fits.{FitParts, FitsSort, Fits, FitTerms, FitBranches, FitDefs}
 use Rattle.dump_printer.proofs.Uses.{names-applied, levels-applied}
 use Rattle.dump_printer.proofs.FitEnvironments.{FitEach, FitCtors, FitsFamily, FitFamilies, FitsOption, FitsDecl, FitDecls, FitConstraints, FitLevels, FitsEnv}
-
-pub both : (a b : Option Limit) → first a b ≡ None → (a ≡ None) × (b ≡ None)
-both None b e = (refl, e)
-both (Some l) b e = absurd cc
+use Rattle.dump_grammar.proofs.NoLimit.{none_both, test_holds}
 
 pub rest-over : (a b : Option Limit) → first a b ≡ None → b ≡ None
-rest-over a b e = (both a b e).1
-
-pub held : (b : Bool) (l : Limit) → unless b l ≡ None → b ≡ true
-held true l e = refl
-held false l e = absurd cc
+rest-over a b e = (none_both a b e).1
 
 pub number-small : (n : ℕ) → number_over n ≡ None → n ≤ 4294967295
 unfolding number_over
-number-small n e = leb-true n 4294967295 (held (nat_le n 4294967295) limits.Number e)
+number-small n e = leb-true n 4294967295 (test_holds (nat_le n 4294967295) limits.Number e)
 
 add-small : (n : ℕ) → add_over n ≡ None → n ≤ 4294967295
 unfolding add_over
-add-small n e = number-small n (both _ _ e).0
+add-small n e = number-small n (none_both _ _ e).0
 
 -- the members that are counted
 count-within : (most n : ℕ) (l : Limit) → one_more_over most l n ≡ None → n < most
-count-within most n l e = ltb-true n most (held (nat_lt n most) l e)
+count-within most n l e = ltb-true n most (test_holds (nat_lt n most) l e)
 
 -- ---- uses that stand in a table
 
@@ -60,7 +53,7 @@ module _ (ns ls : List (List ℕ)) where
   unfolding parts_over each
   parts-fit [] o vs v = (tt, v)
   parts-fit (p ∷ ps) o vs v =
-      let x = both _ _ o in
+      let x = none_both _ _ o in
       let small = add-small p.add.value x.0 in
       let more = parts-fit ps x.1 vs (rest-in p.level _ ls v) in
       ((first-in p.level _ ls v, omega arith, more.0), more.1)
@@ -70,7 +63,7 @@ module _ (ns ls : List (List ℕ)) where
   sort-fits PropForm o vs v = (tt, v)
   sort-fits SetForm o vs v = ((first-in _ _ ls v, omega arith, tt), rest-in _ _ ls v)
   sort-fits (TypeForm p more) o vs v =
-      let x = both _ _ o in
+      let x = none_both _ _ o in
       let small = add-small p.add.value x.0 in
       let rest = parts-fit more x.1 vs (rest-in p.level _ ls v) in
       ((first-in p.level _ ls v, omega arith, rest.0), rest.1)
@@ -89,11 +82,11 @@ module _ (ns ls : List (List ℕ)) where
   unfolding form_over
   definitions-few n NoDefinition o h = omega arith
   definitions-few n (Definition {m} na A b r more) o h =
-      let x = both _ _ o in
+      let x = none_both _ _ o in
       let less = count-within 255 n limits.Definitions x.0 in
-      let y = both (form_over A) (first (form_over b) (first (number_over r.value) (definitions_over (n + 1) more))) x.1 in
-      let z = both (form_over b) (first (number_over r.value) (definitions_over (n + 1) more)) y.1 in
-      let w = both (number_over r.value) (definitions_over (n + 1) more) z.1 in
+      let y = none_both (form_over A) (first (form_over b) (first (number_over r.value) (definitions_over (n + 1) more))) x.1 in
+      let z = none_both (form_over b) (first (number_over r.value) (definitions_over (n + 1) more)) y.1 in
+      let w = none_both (number_over r.value) (definitions_over (n + 1) more) z.1 in
       let more_few = definitions-few (n + 1) more w.1 (omega arith) in
       omega arith
 
@@ -101,62 +94,62 @@ module _ (ns ls : List (List ℕ)) where
     unfolding form_over meaning names levels Fits
 
     pub term-fits : (f : Form) → form_over f ≡ None → (us vs : List (List ℕ)) → AreIn (names (meaning f) us) ns → AreIn (levels (meaning f) vs) ls → All (Fits ns ls (meaning f)) us vs
-    term-fits (FRel n) o us vs u v = (let small = number-small n.value (both _ _ o).0 in (omega arith, u, v))
-    term-fits (FSort s) o us vs u v = (let x = sort-fits s (both _ _ o).0 vs v in (x.0, u, x.1))
+    term-fits (FRel n) o us vs u v = (let small = number-small n.value (none_both _ _ o).0 in (omega arith, u, v))
+    term-fits (FSort s) o us vs u v = (let x = sort-fits s (none_both _ _ o).0 vs v in (x.0, u, x.1))
     term-fits (FProd na A B) o us vs u v =
-        let x = both _ _ o in
-        let y = both _ _ x.1 in
+        let x = none_both _ _ o in
+        let y = none_both _ _ x.1 in
         let on_A = term-fits A x.0 _ _ u v in
         let on_B = term-fits B y.0 us vs on_A.1 on_A.2 in
         ((on_A.0, on_B.0), on_B.1, on_B.2)
     term-fits (FLambda na A b) o us vs u v =
-        let x = both _ _ o in
-        let y = both _ _ x.1 in
+        let x = none_both _ _ o in
+        let y = none_both _ _ x.1 in
         let on_A = term-fits A x.0 _ _ u v in
         let on_b = term-fits b y.0 us vs on_A.1 on_A.2 in
         ((on_A.0, on_b.0), on_b.1, on_b.2)
     term-fits (FLetIn na b B t) o us vs u v =
-        let x = both _ _ o in
-        let y = both _ _ x.1 in
-        let z = both _ _ y.1 in
+        let x = none_both _ _ o in
+        let y = none_both _ _ x.1 in
+        let z = none_both _ _ y.1 in
         let on_b = term-fits b x.0 _ _ u v in
         let on_B = term-fits B y.0 _ _ on_b.1 on_b.2 in
         let on_t = term-fits t z.0 us vs on_B.1 on_B.2 in
         ((on_b.0, on_B.0, on_t.0), on_t.1, on_t.2)
     term-fits (FApp f a more) o us vs u v =
-        let x = both _ _ o in
-        let y = both _ _ x.1 in
-        let z = both _ _ y.1 in
+        let x = none_both _ _ o in
+        let y = none_both _ _ x.1 in
+        let z = none_both _ _ y.1 in
         let T = App (meaning f) (meaning a) in
         let on_f = term-fits f x.0 _ _ (subst (λ (ys : List (List ℕ)). AreIn ys ns) (names-applied T more us) u) (subst (λ (ys : List (List ℕ)). AreIn ys ls) (levels-applied T more vs) v) in
         let on_a = term-fits a y.0 _ _ on_f.1 on_f.2 in
         let on_more = terms-fit more z.0 us vs on_a.1 on_a.2 in
         (fits-applied T more (on_f.0, on_a.0) on_more.0, on_more.1, on_more.2)
     term-fits (FConst k) o us vs u v = (first-in k us ns u, rest-in k us ns u, v)
-    term-fits (FInd k n) o us vs u v = (let small = number-small n.value (both _ _ o).0 in ((first-in k us ns u, omega arith), rest-in k us ns u, v))
+    term-fits (FInd k n) o us vs u v = (let small = number-small n.value (none_both _ _ o).0 in ((first-in k us ns u, omega arith), rest-in k us ns u, v))
     term-fits (FConstruct k n c) o us vs u v =
-        let x = both _ _ o in
-        let y = both _ _ x.1 in
+        let x = none_both _ _ o in
+        let y = none_both _ _ x.1 in
         let small = number-small n.value x.0 in
         let small_c = number-small c.value y.0 in
         ((first-in k us ns u, omega arith, omega arith), rest-in k us ns u, v)
     term-fits (FCase k n ps ms ret scrut brs) o us vs u v =
-        let x = both _ _ o in
+        let x = none_both _ _ o in
         let small = number-small n.value x.0 in
-        let y = both _ _ x.1 in
-        let z = both _ _ y.1 in
-        let w = both _ _ z.1 in
-        let q = both _ _ w.1 in
+        let y = none_both _ _ x.1 in
+        let z = none_both _ _ y.1 in
+        let w = none_both _ _ z.1 in
+        let q = none_both _ _ w.1 in
         let on_ps = terms-fit ps y.0 _ _ (rest-in k _ ns u) v in
         let on_ret = term-fits ret z.0 _ _ on_ps.1 on_ps.2 in
         let on_scrut = term-fits scrut w.0 _ _ on_ret.1 on_ret.2 in
         let on_brs = branches-fit brs q.0 us vs on_scrut.1 on_scrut.2 in
         ((first-in k _ ns u, omega arith, on_ps.0, on_ret.0, on_scrut.0, on_brs.0), on_brs.1, on_brs.2)
     term-fits (FFix {m} na A b n more i below) o us vs u v =
-        let x = both _ _ o in
-        let y = both _ _ x.1 in
-        let z = both _ _ y.1 in
-        let w = both _ _ z.1 in
+        let x = none_both _ _ o in
+        let y = none_both _ _ x.1 in
+        let z = none_both _ _ y.1 in
+        let w = none_both _ _ z.1 in
         let small = number-small n.value z.0 in
         let few = definitions-few 1 more w.0 (omega arith) in
         let index = ltb-true i.value (suc m) below in
@@ -165,8 +158,8 @@ module _ (ns ls : List (List ℕ)) where
         let on_more = definitions-fit 1 more w.0 us vs on_b.1 on_b.2 in
         ((omega arith, (on_A.0, on_b.0, omega arith, on_more.0)), on_more.1, on_more.2)
     term-fits (FCast t kind T) o us vs u v =
-        let x = both _ _ o in
-        let y = both _ _ x.1 in
+        let x = none_both _ _ o in
+        let y = none_both _ _ x.1 in
         let on_T = term-fits T y.0 _ _ u v in
         let on_t = term-fits t x.0 us vs on_T.1 on_T.2 in
         (((on_T.0, omega arith), on_t.0), on_t.1, on_t.2)
@@ -174,7 +167,7 @@ module _ (ns ls : List (List ℕ)) where
     terms-fit : (fs : Forms) → forms_over fs ≡ None → (us vs : List (List ℕ)) → AreIn (names_of_terms (terms_of (meanings fs)) us) ns → AreIn (levels_of_terms (terms_of (meanings fs)) vs) ls → All (FitTerms ns ls (terms_of (meanings fs))) us vs
     terms-fit NoForm o us vs u v = (tt, u, v)
     terms-fit (OneForm f more) o us vs u v =
-        let x = both _ _ o in
+        let x = none_both _ _ o in
         let on_f = term-fits f x.0 _ _ u v in
         let on_more = terms-fit more x.1 us vs on_f.1 on_f.2 in
         ((on_f.0, on_more.0), on_more.1, on_more.2)
@@ -182,7 +175,7 @@ module _ (ns ls : List (List ℕ)) where
     branches-fit : (brs : BranchForms) → branches_over brs ≡ None → (us vs : List (List ℕ)) → AreIn (names_of_branches (branches_of (branch_meanings brs)) us) ns → AreIn (levels_of_branches (branches_of (branch_meanings brs)) vs) ls → All (FitBranches ns ls (branches_of (branch_meanings brs))) us vs
     branches-fit NoBranchForm o us vs u v = (tt, u, v)
     branches-fit (BranchForm ms b more) o us vs u v =
-        let x = both _ _ o in
+        let x = none_both _ _ o in
         let on_b = term-fits b x.0 _ _ u v in
         let on_more = branches-fit more x.1 us vs on_b.1 on_b.2 in
         ((on_b.0, on_more.0), on_more.1, on_more.2)
@@ -191,10 +184,10 @@ module _ (ns ls : List (List ℕ)) where
         (defs_of (definition_meanings ds))) us vs
     definitions-fit n NoDefinition o us vs u v = (tt, u, v)
     definitions-fit n (Definition na A b r more) o us vs u v =
-        let x = both _ _ o in
-        let y = both _ _ x.1 in
-        let z = both _ _ y.1 in
-        let w = both _ _ z.1 in
+        let x = none_both _ _ o in
+        let y = none_both _ _ x.1 in
+        let z = none_both _ _ y.1 in
+        let w = none_both _ _ z.1 in
         let small = number-small r.value w.0 in
         let on_A = term-fits A y.0 _ _ u v in
         let on_b = term-fits b z.0 _ _ on_A.1 on_A.2 in
@@ -207,8 +200,8 @@ module _ (ns ls : List (List ℕ)) where
   unfolding bindings_over each
   bindings-fit n [] o us vs u v = (tt, u, v)
   bindings-fit n (b ∷ bs) o us vs u v =
-      let x = both _ _ o in
-      let y = both _ _ x.1 in
+      let x = none_both _ _ o in
+      let y = none_both _ _ x.1 in
       let on_b = term-fits b.type y.0 _ _ u v in
       let more = bindings-fit (n + 1) bs y.1 us vs on_b.1 on_b.2 in
       ((on_b.0, more.0), more.1, more.2)
@@ -217,7 +210,7 @@ module _ (ns ls : List (List ℕ)) where
   unfolding form_over each meaning
   results-fit NoForm o us vs u v = (tt, u, v)
   results-fit (OneForm f more) o us vs u v =
-      let x = both _ _ o in
+      let x = none_both _ _ o in
       let on_f = term-fits f x.0 _ _ u v in
       let rest = results-fit more x.1 us vs on_f.1 on_f.2 in
       ((on_f.0, rest.0), rest.1, rest.2)
@@ -226,9 +219,9 @@ module _ (ns ls : List (List ℕ)) where
   unfolding ctors_over each
   ctors-fit n [] o us vs u v = (tt, u, v)
   ctors-fit n (k ∷ ks) o us vs u v =
-      let x = both _ _ o in
-      let y = both (ctor_over k) (ctors_over (n + 1) ks) x.1 in
-      let z = both (bindings_over 0 k.args) (forms_over k.result) y.0 in
+      let x = none_both _ _ o in
+      let y = none_both (ctor_over k) (ctors_over (n + 1) ks) x.1 in
+      let z = none_both (bindings_over 0 k.args) (forms_over k.result) y.0 in
       let on_args = bindings-fit 0 k.args z.0 _ _ (rest-in k.name _ ns u) v in
       let on_result = results-fit k.result z.1 _ _ on_args.1 on_args.2 in
       let more = ctors-fit (n + 1) ks y.1 us vs on_result.1 on_result.2 in
@@ -236,8 +229,8 @@ module _ (ns ls : List (List ℕ)) where
 
   family-fits : (f : FamilyForm) → family_over f ≡ None → (us vs : List (List ℕ)) → AreIn (names_of_family (family_meaning f) us) ns → AreIn (levels_of_family (family_meaning f) vs) ls → All (FitsFamily ns ls (family_meaning f)) us vs
   family-fits f o us vs u v =
-      let x = both (sort_over f.sort) (first (bindings_over 0 f.indices) (ctors_over 0 f.ctors)) o in
-      let y = both (bindings_over 0 f.indices) (ctors_over 0 f.ctors) x.1 in
+      let x = none_both (sort_over f.sort) (first (bindings_over 0 f.indices) (ctors_over 0 f.ctors)) o in
+      let y = none_both (bindings_over 0 f.indices) (ctors_over 0 f.ctors) x.1 in
       let on_sort = sort-fits f.sort x.0 _ v in
       let on_indices = bindings-fit 0 f.indices y.0 _ _ (rest-in f.name _ ns u) on_sort.1 in
       let on_ctors = ctors-fit 0 f.ctors y.1 us vs on_indices.1 on_indices.2 in
@@ -247,8 +240,8 @@ module _ (ns ls : List (List ℕ)) where
   unfolding families_over each
   families-fit n [] o us vs u v = (tt, u, v)
   families-fit n (f ∷ fs) o us vs u v =
-      let x = both _ _ o in
-      let y = both (family_over f) (families_over (n + 1) fs) x.1 in
+      let x = none_both _ _ o in
+      let y = none_both (family_over f) (families_over (n + 1) fs) x.1 in
       let on_f = family-fits f y.0 (each names_of_family (map family_meaning fs) us) (each levels_of_family (map family_meaning fs) vs) u v in
       let more = families-fit (n + 1) fs y.1 us vs on_f.1 on_f.2 in
       ((on_f.0, more.0), more.1, more.2)
@@ -260,13 +253,13 @@ module _ (ns ls : List (List ℕ)) where
   declaration-fits : (d : DeclForm) → declaration_over d ≡ None → (us vs : List (List ℕ)) → AreIn (names_of_decl (declaration_meaning d) us) ns → AreIn (levels_of_decl (declaration_meaning d) vs) ls → All (FitsDecl ns ls (declaration_meaning d)) us vs
   unfolding declaration_over declaration_meaning names_of_decl levels_of_decl each
   declaration-fits (ConstantForm k A b) o us vs u v =
-      let x = both (form_over A) (body_over b) o in
+      let x = none_both (form_over A) (body_over b) o in
       let on_A = term-fits A x.0 (names_of_option (body_meaning b) us) (levels_of_option (body_meaning b) vs) (rest-in k _ ns u) v in
       let on_b = body-fits b x.1 us vs on_A.1 on_A.2 in
       ((first-in k _ ns u, on_A.0, on_b.0), on_b.1, on_b.2)
   declaration-fits (BlockForm k ps f more) o us vs u v =
-      let x = both (bindings_over 0 ps) (first (family_over f) (families_over 1 more)) o in
-      let y = both (family_over f) (families_over 1 more) x.1 in
+      let x = none_both (bindings_over 0 ps) (first (family_over f) (families_over 1 more)) o in
+      let y = none_both (family_over f) (families_over 1 more) x.1 in
       let fs = map family_meaning more in
       let on_ps = bindings-fit 0 ps x.0 (names_of_family (family_meaning f) (each names_of_family fs us)) (levels_of_family (family_meaning f) (each levels_of_family fs vs)) (rest-in k _ ns u) v in
       let on_f = family-fits f y.0 (each names_of_family fs us) (each levels_of_family fs vs) on_ps.1 on_ps.2 in
@@ -279,8 +272,8 @@ module _ (ns ls : List (List ℕ)) where
   unfolding declarations_over each
   declarations-fit n [] t o u v = (tt, (term-fits t o [] [] u v).0)
   declarations-fit n (d ∷ xs) t o u v =
-      let x = both _ _ o in
-      let y = both (declaration_over d) (declarations_over (n + 1) xs t) x.1 in
+      let x = none_both _ _ o in
+      let y = none_both (declaration_over d) (declarations_over (n + 1) xs t) x.1 in
       let on_d = declaration-fits d y.0 (each names_of_decl (map declaration_meaning xs) (names (meaning t) [])) (each levels_of_decl (map declaration_meaning xs) (levels (meaning t) [])) u v in
       let more = declarations-fit (n + 1) xs t y.1 on_d.1 on_d.2 in
       ((on_d.0, more.0), more.1)
@@ -301,8 +294,8 @@ module _ (ns ls : List (List ℕ)) where
 
   pub dump-fits : (d : Dump) → dump_over d ≡ None → AreIn (name_uses (env_of d)) ns → AreIn (level_uses (env_of d)) ls → FitsEnv ns ls (env_of d)
   dump-fits d o u v =
-      let x = both _ _ o in
-      let y = both _ _ x.1 in
+      let x = none_both _ _ o in
+      let y = none_both _ _ x.1 in
       let on_levels = levels-fit d.levels (each levels_of_constraint (map constraint_meaning d.constraints) (each levels_of_decl (map declaration_meaning d.decls) (levels (meaning d.main) []))) v in
       let on_constraints = constraints-fit d.constraints (each levels_of_decl (map declaration_meaning d.decls) (levels (meaning d.main) [])) on_levels.1 in
       let on_decls = declarations-fit 0 d.decls d.main y.1 u on_constraints.1 in

@@ -23,9 +23,7 @@ use Rattle.type_cert.proofs.Retracing.{retraces_bar}
 use Rattle.env_cert.specs.Verified.{walk_from, WalksFound, WalksAlong}
 use Rattle.env_cert.specs.EnvWalks.{declarations_walk}
 use Rattle.env_cert.specs.Beginning.{first_halt, HaltsFirst}
-
-unless_none : {A : Type 0} (o : Option A) (go : Walk (Env × Term)) (s : WalkState) → o ≡ None → walk_unless o go s ≡ go
-unless_none o go s e = ap (λ x. walk_unless x go s) e
+use Rattle.cert_rules.proofs.TraceEnvironments.{unless_none}
 
 unless_some : {A : Type 0} (o : Option A) (a : A) (go : Walk (Env × Term)) (s : WalkState) → o ≡ Some a → walk_unless o go s ≡ bar_here s
 unless_some o a go s e = ap (λ x. walk_unless x go s) e

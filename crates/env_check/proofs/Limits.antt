@@ -1,9 +1,7 @@
 -- The lists of an environment that some text spells within the limits are no longer than those.
-use Rattle.std.proofs.Common.{◌≡◌, ℕ, ◌+◌, ◌≤◌, ◌<◌, List, [], ◌∷◌, length, map, Option, Some, None, Bool, true, false, nat_lt, refl, sym, ap, subst, ◌∙◌, arith}
-use Rattle.std.proofs.lemmas.Bool.{ltb-true}
+use Rattle.std.proofs.Common.{◌≡◌, ℕ, ◌+◌, ◌≤◌, List, [], ◌∷◌, length, map, None, sym, ap, subst, ◌∙◌, arith}
 use Rattle.std.proofs.lemmas.List.{length-map}
 use Rattle.sexp_reader.specs.Lex.{tokens_of}
-use Rattle.dump_grammar.specs.declared.refusal.Limit.{Limit}
 use Rattle.dump_grammar.specs.declared.refusal.Limit.TheVariants as limits
 use Rattle.dump_grammar.specs.Numbers.{LevelName}
 use Rattle.dump_grammar.specs.Numbering.{name_table, level_table}
@@ -12,7 +10,7 @@ use Rattle.dump_grammar.specs.Declarations.{DeclForm, declaration_meaning}
 use Rattle.dump_grammar.specs.Environments.{ConstraintForm, Dump, level_names, constraint_meaning, env_of}
 use Rattle.dump_grammar.specs.Table.{VEnv}
 use Rattle.dump_grammar.specs.Judge.{Fine}
-use Rattle.dump_grammar.specs.Limits.{unless, first, one_more_over}
+use Rattle.dump_grammar.specs.Limits.{first, one_more_over}
 use Rattle.dump_grammar.specs.Within.{DumpIsWithin, levels_over, constraints_over, declaration_over, declarations_over, dump_over}
 use Rattle.dump_grammar.proofs.Law.{judged}
 use Rattle.dump_grammar.proofs.Within.{limited}
@@ -20,22 +18,12 @@ use Rattle.dump_reader.specs.declared.environment.RawEnv.{RawEnv}
 use Rattle.dump_reader.specs.Numbered.{level_number}
 use Rattle.dump_reader.specs.NumberedEnvironment.{numbered_constraint, numbered_decl, numbered}
 use Rattle.dump_reader.specs.Spelled.{IsSpelled}
+use Rattle.dump_grammar.proofs.NoLimit.{none_both, one_more_fits}
 
 pub record AreFew (e : RawEnv) : Type 0 where
   pub levels : length e.levels ≤ 1024
   pub constraints : length e.constraints ≤ 16384
   pub declarations : length e.decls ≤ 65536
-
-none_both : (a b : Option Limit) → first a b ≡ None → (a ≡ None) × (b ≡ None)
-none_both None b h = (refl, h)
-none_both (Some l) b h = absurd (cc)
-
-pub test_holds : (b : Bool) (l : Limit) → unless b l ≡ None → b ≡ true
-test_holds true l h = refl
-test_holds false l h = absurd (cc)
-
-pub one_more_fits : (most : ℕ) (l : Limit) (n : ℕ) → one_more_over most l n ≡ None → n < most
-one_more_fits most l n h = ltb-true n most (test_holds (nat_lt n most) l h)
 
 few_levels : (n : ℕ) (ls : List LevelName) → n ≤ 1024 → levels_over n ls ≡ None → n + length (level_names ls) ≤ 1024
 unfolding levels_over

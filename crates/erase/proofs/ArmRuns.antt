@@ -1,7 +1,7 @@
 -- Matches: the loop over branches follows the directed rules.
 use Rattle.std.proofs.Common.{◌≡◌, ◌≤◌, ◌<◌, ◌+◌, ◌⊎◌, inl, inr, ℕ, zero, suc, min, List, [], ◌∷◌, ◌++◌, length, drop, get_or, Option, Some, None, Result, Ok, Err, IsTrue, refl, sym, ap, ◌∙◌, subst, arith}
 use Rattle.trees.specs.Tree.{Done, Next, terms_of}
-use Rattle.trees.specs.Measures.{depth, depth_trees, IsWithin}
+use Rattle.trees.specs.Measures.{IsWithin}
 use Rattle.pc_terms.specs.declared.leaf.FamilyId.{FamilyId}
 use Rattle.pc_terms.specs.declared.term.Branch.{Branch}
 use Rattle.pc_terms.specs.declared.term.MakeFault.{MakeFault}
@@ -224,11 +224,6 @@ module _ (E : Env) {inf : Typing} (fair : FairTyping 0 0 inf) (c : Context) (f :
 pub constructors_counted : (E : Env) → HasCountedDeclarations E → (f : FamilyId) (F : FamilyDecl) → family_of E f ≡ Some F → AreCountedConstructors E F.constructors
 constructors_counted E w f F e = (kept_counted E f F w (family_found E f F e)).2
 
-pub arm_is_less : (bs : List Branch) (i : ℕ) (b : Branch) → i < length bs → b ≡ get_or bs i b → depth b.body ≤ depth_trees (arms_of bs)
-arm_is_less [] i b l e = absurd (omega arith)
-arm_is_less (x ∷ bs) zero b l e = subst (λ y. depth y.body ≤ depth_trees (arms_of (x ∷ bs))) (sym e) (omega arith)
-arm_is_less (x ∷ bs) (suc i) b l e = let h = arm_is_less bs i b (omega arith) e in omega (arith, h)
-
 pub arm_counted : (E : Env) (bs : List Branch) (i : ℕ) (b : Branch) → EachTerm (IsCountedNode E) (arms_of bs) → i < length bs → b ≡ get_or bs i b → IsCounted E b.body
 arm_counted E [] i b h l e = absurd (omega arith)
 arm_counted E (x ∷ bs) zero b h l e = subst (λ y. IsCounted E y.body) (sym e) h.0
@@ -238,7 +233,3 @@ pub args_counted : (E : Env) (Cs : List Constructor) (i : ℕ) (C : Constructor)
 args_counted E [] i C h l e = absurd (omega arith)
 args_counted E (D ∷ Cs) zero C h l e = subst (λ D. AreCounted E D.args) (sym e) h.0.0
 args_counted E (D ∷ Cs) (suc i) C h l e = args_counted E Cs i C h.1 (omega arith) e
-
-pub are_counted : (E : Env) (ps : List Term) → EachTerm (IsCountedNode E) (terms_of ps) → AreCounted E ps
-are_counted E [] h = tt
-are_counted E (p ∷ ps) h = (h.0, are_counted E ps h.1)

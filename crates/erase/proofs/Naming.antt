@@ -1,6 +1,5 @@
 -- The set of names that a term names, part by part.
-use Rattle.std.proofs.Common.{◌≡◌, ◌≤◌, ◌<◌, ◌+◌, ◌∙◌, ◌||◌, ap, sym, subst, refl, cond, ℕ, zero, suc, Bool, true, false, List, [], ◌∷◌, length, drop, get_or, arith}
-use Rattle.trees.specs.Measures.{depth, depth_trees}
+use Rattle.std.proofs.Common.{◌≡◌, ◌≤◌, ◌<◌, ◌+◌, ◌∙◌, ◌||◌, ap, sym, refl, cond, ℕ, Bool, true, false, List, length, drop, get_or}
 use Rattle.pc_terms.specs.declared.leaf.Name.{Name}
 use Rattle.pc_rules.proofs.ListSteps.{next_is, none_left}
 use Rattle.box_terms.specs.declared.term.BoxBranch.{BoxBranch}
@@ -53,13 +52,3 @@ module _ (k : Name) where
     bodies_named_all whole s l w = sym (ap (λ xs. names_constant_terms k (bodies_of n xs) || s) (none_left ds i l)) ∙ w
 
 -- each body is smaller than the list
-
-pub box_arm_is_less : (bs : List BoxBranch) (i : ℕ) (b : BoxBranch) → i < length bs → b ≡ get_or bs i b → depth b.body ≤ depth_trees (arms_of bs)
-box_arm_is_less [] i b l e = absurd (omega arith)
-box_arm_is_less (x ∷ bs) zero b l e = subst (λ y. depth y.body ≤ depth_trees (arms_of (x ∷ bs))) (sym e) (omega arith)
-box_arm_is_less (x ∷ bs) (suc i) b l e = let h = box_arm_is_less bs i b (omega arith) e in omega (arith, h)
-
-pub box_body_is_less : (m : ℕ) (ds : List BoxDef) (i : ℕ) (d : BoxDef) → i < length ds → d ≡ get_or ds i d → depth d.body ≤ depth_trees (bodies_of m ds)
-box_body_is_less m [] i d l e = absurd (omega arith)
-box_body_is_less m (x ∷ ds) zero d l e = subst (λ y. depth y.body ≤ depth_trees (bodies_of m (x ∷ ds))) (sym e) (omega arith)
-box_body_is_less m (x ∷ ds) (suc i) d l e = let h = box_body_is_less m ds i d (omega arith) e in omega (arith, h)

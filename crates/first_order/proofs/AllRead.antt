@@ -19,7 +19,7 @@ use Rattle.first_order.proofs.NodeByNode.{fields_length, read_none, read_next}
 use Rattle.first_order.proofs.DataRead.{place_of, value_of, places_of_fields, values_of_fields}
 
 module _ (E : Env) (S : List Member) where
-  all_long : {js : List ℕ} {xs : List Term} {ds : Data} → ReadsAll E S js xs ds → length xs ≡ length js
+  pub all_long : {js : List ℕ} {xs : List Term} {ds : Data} → ReadsAll E S js xs ds → length xs ≡ length js
   all_long no_field = refl
   all_long (field_read r rs) = ap suc (all_long rs)
 

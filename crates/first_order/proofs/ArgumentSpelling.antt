@@ -165,7 +165,7 @@ begun names (AwaitsClose t) Stray zs ns e = absurd cc
 
 -- ---- what is read is spelled
 
-are_is : (ds es : Data) → ArgumentsAre ds ≡ ArgumentsAre es → ds ≡ es
+pub are_is : (ds es : Data) → ArgumentsAre ds ≡ ArgumentsAre es → ds ≡ es
 are_is ds es e = cc
 
 read_behind : (ms ds : Data) (r : ArgumentReading) → with_nodes ms r ≡ ArgumentsAre ds → (ns : Data) × (r ≡ ArgumentsAre ns) × (ds ≡ ms ++ ns)

@@ -1,5 +1,5 @@
 -- How the reading of arguments goes on at the next token.
-use Rattle.std.proofs.Common.{◌≡◌, ◌∙◌, ℕ, ◌<◌, List, [], ◌∷◌, ◌++◌, length, Option, Some, None, Ok, Err, refl, sym, ap, subst, arith}
+use Rattle.std.proofs.Common.{◌≡◌, ◌∙◌, ℕ, List, [], ◌∷◌, ◌++◌, length, Option, Some, None, Ok, Err, refl, sym, ap, subst}
 use Rattle.sexp_reader.specs.Text.{Text}
 use Rattle.sexp_reader.specs.Lex.{Spanned, answer, answer_at, rest, nesting_after, nesting_after_text}
 use Rattle.sexp_reader.specs.Stream.{source, stream, depth, text_at, Gave}
@@ -12,6 +12,7 @@ use Rattle.first_order.specs.Awaited.{Awaited, TakesToken, ArgumentReading, Argu
 use Rattle.first_order.specs.declared.given.Unfit.{Unfit}
 use Rattle.first_order.specs.declared.given.Unfit.TheVariants as unfit
 use Rattle.first_order.specs.Nexts.{IsUnfit, unfit_fault, reading_on, GoesWith, GetsToken, GetsSome, PassesFirst}
+use Rattle.sexp_reader.proofs.Steps.{shorter}
 
 pub nothing_left : (names : List (List ℕ)) (len d : ℕ) (ss : List Spanned) (xs : List Awaited) → ss ≡ [] → reading_of names len ss d xs ≡ at_end len xs
 unfolding reading_of
@@ -30,9 +31,6 @@ pub token_refused : (names : List (List ℕ)) (len d : ℕ) (f : TokenFault) (ss
 unfolding reading_of
 token_refused names len d f [] xs e = absurd cc
 token_refused names len d f (s ∷ ss) xs e = ap (λ r. answered r (at_token names xs s.start s.text (λ ys. reading_of names len ss (nesting_after_text d s.text) ys))) (sym e)
-
-shorter : (s : Spanned) (old new : List Spanned) → old ≡ s ∷ new → length new < length old
-shorter s old new e = rw e (omega arith)
 
 goes_on : (names : List (List ℕ)) (t : Token) (old new : Tokens) (xs : List Awaited) →
     reading_on names old xs ≡ at_token names xs t.start (text_at (source old) t) (λ ys. reading_on names new ys) → GoesWith names (Ok (Some t)) old new xs

@@ -1,6 +1,5 @@
 -- Parts of a search that follow each other, and runs of a search that have come to another one.
-use Rattle.std.proofs.Common.{◌≡◌, ◌∙◌, sym, ap, refl, subst, ◌||◌, ℕ, Bool, false, Result, Ok, Err, IsErrAnd}
-use Rattle.std.proofs.Math.Bool.{or-false}
+use Rattle.std.proofs.Common.{◌≡◌, ◌∙◌, ap, refl, ℕ, Result, Ok, Err, IsErrAnd}
 use Rattle.std.proofs.lemmas.Result.{err_from_is_err_and}
 use Rattle.pc_terms.specs.declared.term.MakeFault.{MakeFault}
 use Rattle.pc_terms.specs.declared.term.MakeFault.TheVariants.{Memory as NoTerm}
@@ -8,13 +7,12 @@ use Rattle.pc_rules.specs.declared.meter.Account.{Account}
 use Rattle.pc_rules.specs.declared.meter.Meter.{Meter}
 use Rattle.pc_rules.specs.declared.stop.Stop.TheVariants.{Spent, TooDeep, Memory}
 use Rattle.pc_rules.specs.declared.stop.Halt.{Halt}
-use Rattle.pc_rules.specs.declared.stop.Halt.TheVariants.{Stop, Broken as Refusal}
-use Rattle.pc_rules.specs.DirectedRun.{Run, End, Done, Refused, NoUnit, Nested, done, bind, end_then, deep_then, Leaves}
+use Rattle.pc_rules.specs.declared.stop.Halt.TheVariants.{Stop}
+use Rattle.pc_rules.specs.DirectedRun.{Run, Done, done, bind, Leaves}
 use Rattle.pc_rules.specs.DirectedFirstOrder.{Searched, Found, NotFirstOrder, TooManyTypes, on_found, with_found}
 use Rattle.pc_rules.specs.Stops.{stop_of}
-use Rattle.pc_rules.specs.Follows.{Follows, IsAfter, Answers}
+use Rattle.pc_rules.specs.Follows.{Follows, IsAfter}
 use Rattle.pc_rules.specs.Leads.{Leads}
-use Rattle.pc_rules.proofs.Meters.{after-trans}
 use Rattle.pc_rules.proofs.Fair.{leaves_bind, same_left}
 use Rattle.pc_rules.proofs.FairSearch.{on_found_leaves}
 use Rattle.pc_rules.proofs.Following.{bind_end, bind_deep, bind_done, leads_leave, follows_bind, follows_err, follows_done}
@@ -22,6 +20,7 @@ use Rattle.pc_rules.proofs.SameWithin.{bind_assoc}
 use Rattle.first_order.specs.declared.faults.ShapeRefusal.{ShapeRefusal}
 use Rattle.first_order.specs.declared.faults.ShapeRefusal.TheVariants.{NotFirstOrder as Without, Types as ManyTypes, Spent as NoUnits, TooDeep as Deep, Memory as NoMemory}
 use Rattle.first_order.specs.Searching.{searched, refusal_of}
+use Rattle.pc_rules.proofs.Leading.{bind_unit, leads_start, leads_along, follows_leads}
 
 -- ---- grouping
 
@@ -34,22 +33,6 @@ on_on k l TooManyTypes u = bind_done TooManyTypes u (λ t v. on_found t v l)
 pub with_found_assoc : {A B C : Type 0} (r : Run (Searched A)) (k : A → Account → Run (Searched B)) (l : B → Account → Run (Searched C)) →
     with_found (with_found r k) l ≡ with_found r (λ a u. with_found (k a u) l)
 with_found_assoc r k l = bind_assoc (λ s u. on_found s u k) (λ s u. on_found s u l) r ∙ (λ i. bind r (λ s u. on_on k l s u i))
-
-end_unit : {A : Type 0} (e : End A) → e ≡ end_then e (λ a u. Done a u)
-end_unit (Done a u) = refl
-end_unit (Refused b u) = refl
-end_unit NoUnit = refl
-end_unit Nested = refl
-
-deep_unit : {A : Type 0} (x : Bool) (e : End A) → x ≡ (x || deep_then e (λ a u. false))
-deep_unit x (Done a u) = sym (or-false x)
-deep_unit x (Refused b u) = sym (or-false x)
-deep_unit x NoUnit = sym (or-false x)
-deep_unit x Nested = sym (or-false x)
-
-bind_unit : {A : Type 0} (d : Run A) → d ≡ bind d (λ a u. done a u)
-unfolding bind
-bind_unit d = λ i. record { end = end_unit d.end i; deep = deep_unit d.deep d.end i }
 
 on_unit : {A : Type 0} (s : Searched A) (u : Account) → done s u ≡ on_found s u (λ a v. done (Found a) v)
 on_unit (Found a) u = refl
@@ -107,29 +90,12 @@ passes_memory d v r x m0 m1 e h after l =
 
 -- ---- runs that have come to another one
 
-pub leads_same : {A : Type 0} (d e : Run A) → d ≡ e → Leads d e
-leads_same d e p = subst (λ x. Leads d x) p (record { end = refl; deep = λ h. h })
-
-pub leads_along : {A : Type 0} (whole d e : Run A) → d ≡ e → Leads whole d → Leads whole e
-leads_along whole d e p l = subst (λ x. Leads whole x) p l
-
 pub leads_found : {A B : Type 0} (whole : Run (Searched B)) (r : Run (Searched A)) (k : A → Account → Run (Searched B)) (a : A) (v : Account) →
     Leads whole (with_found r k) → r.end ≡ Done (Found a) v → Leads whole (k a v)
 leads_found whole r k a v l e = record {
   end = l.end ∙ bind_end r (λ s u. on_found s u k) (Found a) v e;
   deep = λ h. l.deep (bind_deep r (λ s u. on_found s u k) (Found a) v e h);
 }
-
-answers_led : {A : Type 0} (whole rest : Run A) (r : Result A Halt) (u : Account) → Leads whole rest → Answers rest r u → Answers whole r u
-answers_led whole rest (Ok a) u l h = l.end ∙ h
-answers_led whole rest (Err (Stop Spent)) u l h = (l.end ∙ h.0, h.1)
-answers_led whole rest (Err (Stop TooDeep)) u l h = l.deep h
-answers_led whole rest (Err (Stop Memory)) u l h = tt
-answers_led whole rest (Err (Refusal b)) u l h = l.end ∙ h
-
-pub follows_led : {A : Type 0} (whole rest : Run A) (r : Result A Halt) (m0 m1 m2 : Meter) → Leads whole rest → IsAfter m0 m1 → Follows rest r m1 m2 → Follows whole r m0 m2
-follows_led whole rest r m0 m1 m2 l after f =
-    record { answer = answers_led whole rest r m2.account l f.answer; after = after-trans m0 m1 m2 after f.after; leaves = leads_leave whole rest m2.account.left l f.leaves }
 
 -- ---- results that are collected one by one: what is done with the results of the rest
 
@@ -141,7 +107,7 @@ pub then_leaves : {B C : Type 0} (r : Run (Searched B)) (f : B → C) (n : ℕ) 
 then_leaves r f n h = with_leaves r (λ b w. done (Found (f b)) w) n h (λ b u. same_left u)
 
 pub collect_start : {B : Type 0} (r : Run (Searched B)) → Leads r (then_done r (λ b. b))
-collect_start r = leads_same r (then_done r (λ b. b)) (found_unit r)
+collect_start r = leads_start r (then_done r (λ b. b)) (found_unit r)
 
 module _ {A B C : Type 0} (whole : Run (Searched C)) (one : Run (Searched A)) (rest : A → Account → Run (Searched B)) (g : A → B → B) (pre : B → C) where
   abbrev both : A → Account → Run (Searched B)
@@ -162,7 +128,7 @@ module _ {A B C : Type 0} (whole : Run (Searched C)) (one : Run (Searched A)) (r
   pub collect_lost : {X Y : Type 0} (f : X → A) (h : Y → C) (e : ShapeRefusal) (m0 m1 m2 : Meter) → Leads whole (then_done (with_found one both) pre) → IsAfter m0 m1 →
       Follows one (searched f (Err e)) m1 m2 → ((a : A) (v : Account) → Leaves (rest a v).end v.left) → Follows whole (searched h (Err e)) m0 m2
   collect_lost f h e m0 m1 m2 l after p q =
-      follows_led whole (with_found one (λ a v. then_done (both a v) pre)) (searched h (Err e)) m0 m1 m2 (leads_along whole _ _ regrouped l) after
+      follows_leads whole (with_found one (λ a v. then_done (both a v) pre)) (searched h (Err e)) m0 m1 m2 (leads_along whole _ _ regrouped l) after
       (follows_lost one (λ a v. then_done (both a v) pre) f h e m1 m2 p (λ a v. then_leaves (both a v) pre v.left (then_leaves (rest a v) (g a) v.left (q a v))))
 
 -- there is no memory for what is found, and of the results of the rest something is done
@@ -174,6 +140,6 @@ collect_memory whole rest pre v r x m0 m1 e h l after n =
 pub collect_end : {B C : Type 0} (whole : Run (Searched C)) (d : Run (Searched B)) (pre : B → C) (b : B) (m0 m1 : Meter) → d ≡ done (Found b) m1.account →
     Leads whole (then_done d pre) → IsAfter m0 m1 → Follows whole (Ok (Found (pre b))) m0 m1
 collect_end whole d pre b m0 m1 e l after =
-    follows_led whole (done (Found (pre b)) m1.account) (Ok (Found (pre b))) m0 m1 m1
+    follows_leads whole (done (Found (pre b)) m1.account) (Ok (Found (pre b))) m0 m1 m1
     (leads_along whole _ _ (ap (λ x. then_done x pre) e ∙ bind_done (Found b) m1.account (λ t x. on_found t x (λ b w. done (Found (pre b)) w))) l) after
     (follows_done (Found (pre b)) m1)

@@ -32,7 +32,8 @@ use Rattle.first_order.specs.declared.shapes.Signature.{Signature}
 use Rattle.first_order.specs.Searching.{searched, refusal_of, as_is}
 use Rattle.first_order.specs.Signature.{IsSignature, answers, takes}
 use Rattle.first_order.specs.DirectedSignature.{Signed, Takes, TooManyArguments, before_arguments, one_argument, is_product, next_type, argument, answer_type, signature_within, signature_of, signature_search, signed, refusal_in, set_of, sets_of}
-use Rattle.first_order.proofs.Searches.{then_done, with_leaves, then_leaves, collect_start, collect_next, collect_lost, collect_end, follows_led, follows_found, follows_lost, leads_along}
+use Rattle.first_order.proofs.Searches.{then_done, with_leaves, then_leaves, collect_start, collect_next, collect_lost, collect_end, follows_found, follows_lost}
+use Rattle.pc_rules.proofs.Leading.{leads_along, follows_leads}
 
 -- ---- what follows an argument
 
@@ -198,7 +199,7 @@ module _ (E : Env) where
         Follows whole (Ok (Found (Takes Ss R))) m0 m2
     answer_found is R m0 m1 m2 same after p =
         along (λ xs. Follows whole (Ok (Found (Takes xs R))) m0 m2) (append-nil Ss)
-        (follows_led whole (then_done (answer_type E W u) (before_arguments Ss)) (Ok (Found (before_arguments Ss (Takes [] R)))) m0 m1 m2 (at_answer is) after
+        (follows_leads whole (then_done (answer_type E W u) (before_arguments Ss)) (Ok (Found (before_arguments Ss (Takes [] R)))) m0 m1 m2 (at_answer is) after
         (follows_found (answer_type E W u) (λ s w. done (Found (before_arguments Ss s)) w) (Takes [] R) _ m1 m2 m2
         (follows_found (first_order_search E W u) (λ R v. done (Found (Takes [] R)) v) R _ m1 m2 m2 p (follows_done (Found (Takes [] R)) m2))
         (follows_done (Found (before_arguments Ss (Takes [] R))) m2)))
@@ -207,7 +208,7 @@ module _ (E : Env) where
         Follows whole (signed (Err (refusal_in e))) m0 m2
     answer_lost is f e m0 m1 m2 after p =
         seen_alike {A = Signed} whole (λ s. s) e m0 m2
-        (follows_led whole (then_done (answer_type E W u) (before_arguments Ss)) (searched (λ (s : Signed). s) (Err e)) m0 m1 m2 (at_answer is) after
+        (follows_leads whole (then_done (answer_type E W u) (before_arguments Ss)) (searched (λ (s : Signed). s) (Err e)) m0 m1 m2 (at_answer is) after
         (follows_lost (answer_type E W u) (λ s w. done (Found (before_arguments Ss s)) w) (λ (s : Signed). s) (λ (s : Signed). s) e m1 m2
         (follows_lost (first_order_search E W u) (λ R v. done (Found (Takes [] R)) v) f (λ (s : Signed). s) e m1 m2 p (λ R v. same_left v)) (λ s w. same_left w)))
 

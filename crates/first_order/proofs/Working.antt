@@ -1,6 +1,6 @@
 -- The parts of the search, one item of a list at a time.
-use Rattle.std.proofs.Common.{◌≡◌, ◌∙◌, sym, ap, refl, subst as along, ℕ, zero, suc, ◌+◌, ◌-◌, ◌<◌, ◌≤◌, ◌==◌, ◌&&◌, ◌↔◌, ◌⊎◌, inl, inr, Bool, true}
-use Rattle.std.proofs.Common.{false, if◌then◌else◌, IsTrue, List, [], ◌∷◌, ◌++◌, length, map, take, drop, get_or, Option, Some, None, slice_get, Ok, Err, append_assoc, append-nil, length-append, arith}
+use Rattle.std.proofs.Common.{◌≡◌, ◌∙◌, sym, ap, refl, subst as along, ℕ, zero, suc, ◌+◌, ◌-◌, ◌<◌, ◌≤◌, ◌==◌, ◌&&◌, ◌⊎◌, inl, inr, Bool, true}
+use Rattle.std.proofs.Common.{false, if◌then◌else◌, List, [], ◌∷◌, ◌++◌, length, map, take, drop, get_or, Option, Some, None, slice_get, Ok, Err, append_assoc, append-nil, length-append, arith}
 use Rattle.std.specs.Prelude.{option_map}
 use Rattle.std.proofs.lemmas.Bool.{eq-eqb, eqb-true}
 use Rattle.std.proofs.lemmas.List.{map-append, take_all}
@@ -36,7 +36,8 @@ use Rattle.pc_rules.proofs.SameWithin.{bind_assoc}
 use Rattle.first_order.specs.declared.faults.ShapeRefusal.{ShapeRefusal}
 use Rattle.first_order.specs.Searching.{searched, one_constructor, is_whole}
 use Rattle.first_order.proofs.Lowered.{not_both}
-use Rattle.first_order.proofs.Searches.{then_done, collect_next, collect_lost, collect_end, leads_along, leads_found, leads_same, found_unit}
+use Rattle.first_order.proofs.Searches.{then_done, collect_next, collect_lost, collect_end, leads_found, found_unit}
+use Rattle.pc_rules.proofs.Leading.{leads_start, leads_along}
 
 -- ---- the place of a type in a list
 
@@ -83,11 +84,6 @@ module _ (W : Term) (Ts : List Term) (i : ℕ) (before : place_in W Ts ≡ furth
   place_nowhere ge = before ∙ ap (λ xs. further i (place_in W xs)) (none_left Ts i ge) ∙ further_none i
 
 -- ---- a type is put behind the others
-
-pub no_unit_left : (b : Bool) (n : ℕ) → (IsTrue b ↔ (0 < n)) → b ≡ false → n ≡ 0
-no_unit_left true n h e = absurd (cc)
-no_unit_left false zero h e = refl
-no_unit_left false (suc n) h e = let t : false ≡ true = h.1 (omega arith) in absurd cc
 
 room_left : (Ts : List Term) → (length Ts ≡ 1024 → ⊥) → (length Ts == 1024) ≡ false
 room_left Ts n = not_true (length Ts == 1024) (λ e. n (eqb-true (length Ts) 1024 e))
@@ -379,7 +375,7 @@ module _ (E : Env) where
       Leads (first_order_search E T u) (then_done (working Us 0 v) (appended []))
   search_starts T u v Us j e =
       leads_along (first_order_search E T u) _ _ (found_unit (working Us 0 v))
-      (leads_found (first_order_search E T u) (put_in E 1024 [] T u) (λ p v. working p.0 0 v) (Us, j) v (leads_same _ _ refl) e)
+      (leads_found (first_order_search E T u) (put_in E 1024 [] T u) (λ p v. working p.0 0 v) (Us, j) v (leads_start _ _ refl) e)
 
 -- ---- one item more of two lists whose items are seen alike
 

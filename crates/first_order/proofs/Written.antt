@@ -26,7 +26,7 @@ pub too_many : (N : Naming) (s : Slot) (ss : List Slot) (k : ℕ) → write_on N
 unfolding write_on
 too_many N s ss k = refl
 
-before_both : (t u : List ℕ) (w : Writing) → before t (before u w) ≡ before (t ++ u) w
+pub before_both : (t u : List ℕ) (w : Writing) → before t (before u w) ≡ before (t ++ u) w
 before_both t u (Written v) = ap Written (sym (append_assoc t u v))
 before_both t u (NotOf k) = refl
 before_both t u NoTree = refl

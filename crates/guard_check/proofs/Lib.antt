@@ -3,7 +3,6 @@ pub mod Findings
 pub mod Heads
 pub mod FoundRuns
 pub mod WalkRuns
-pub mod Depths
 pub mod Guarded
 mod BlockRuns
 mod Endings

@@ -1,8 +1,7 @@
 -- A run that returns has made at least as many steps as the evaluation of the saturated program has matches.
-use Rattle.std.proofs.Common.{◌∙◌, ◌≤◌, List, [], ◌∷◌, length, refl, sym, subst, arith}
+use Rattle.std.proofs.Common.{◌∙◌, ◌≤◌, List, [], length, refl, sym, subst, arith}
 use Rattle.std.proofs.lemmas.Option.{same_Some}
-use Rattle.trees.specs.Measures.{depth}
-use Rattle.lambda_box.specs.BoxProgram.{BoxConstant, BoxFamily, Has, here, there}
+use Rattle.lambda_box.specs.BoxProgram.{BoxFamily, Has}
 use Rattle.lambda_box.specs.ClosureEvaluation.{Empty, NoValue, bind_all, ClosureRun}
 use Rattle.lambda_box.specs.DataTerms.{no_data, hold_none}
 use Rattle.box_passes.specs.PassLaws.{saturated_program}
@@ -13,23 +12,19 @@ use Rattle.shrink_passes.proofs.ShrunkPrograms.{shrunk_forms, shrunk_shallow, sh
 use Rattle.anf_convert.specs.AnfData.{DNil, anf_data_none}
 use Rattle.anf_convert.specs.AnfEvaluation.{WNil}
 use Rattle.anf_convert.specs.AnfForm.{AnfFormed}
-use Rattle.anf_convert.specs.BoxForms.{AreShallow, ConstructorsWithin}
+use Rattle.anf_convert.specs.BoxForms.{ConstructorsWithin}
 use Rattle.anf_convert.specs.ToAnf.{to_anf}
 use Rattle.anf_convert.specs.ToAnfKeeps.{box_alone}
 use Rattle.anf_convert.specs.ToAnfKeeps as anf
 use Rattle.anf_convert.proofs.Follows.{to_anf_keeps}
 use Rattle.anf_convert.proofs.Preorder.{reads_tree}
-use Rattle.anf_convert.proofs.Prepared.{data_kept, form_kept}
+use Rattle.anf_convert.proofs.Prepared.{data_kept, form_kept, all_shallow}
 use Rattle.wasm_core.specs.declared.ended.Ended.TheVariants.{Returned}
 use Rattle.wasm_core.specs.MachineStep.{State, Over, Reach}
 use Rattle.known_calls.proofs.KnownComposition.{anf_answers_known}
 use Rattle.back_end.proofs.Whole.{families, no_values}
 use Rattle.back_end.proofs.Lower.{returned}
 use Rattle.headline.specs.EveryRun.{module_for, ReturnsTakeMatches}
-
-pub all_shallow : (cs : List BoxConstant) → ((d : BoxConstant) → Has cs d → depth d.body ≤ 2048) → AreShallow cs
-all_shallow [] h = tt
-all_shallow (c ∷ cs) h = (h c here, all_shallow cs (λ d m. h d (there m)))
 
 pub late_returns : ReturnsTakeMatches
 late_returns P pages b pos small some ok value tree nodes matches evaluates reads first k s starts reach =

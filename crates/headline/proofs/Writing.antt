@@ -10,14 +10,9 @@ use Rattle.first_order.specs.declared.shapes.Shape.{Shape}
 use Rattle.first_order.specs.declared.shapes.ShapeCtor.{ShapeCtor}
 use Rattle.first_order.specs.Searching.{member, members, places}
 use Rattle.first_order.specs.Texts.{Naming, counted_ctor, constructor_in, by_shapes, HasNames, slot, slot_behind, slots, piece, Writing, Written, NotOf, NoTree, before, on_name, write_on, write}
-use Rattle.first_order.proofs.Written.{written_node, nothing_written, is_text}
+use Rattle.first_order.proofs.Written.{written_node, nothing_written, is_text, before_both}
 use Rattle.first_order.proofs.ReadTexts.{shapes_count, named_at}
 use Rattle.headline.specs.WrittenData.{FittingDataIsWritten}
-
-both_before : (t u : List ℕ) (w : Writing) → before t (before u w) ≡ before (t ++ u) w
-both_before t u (Written v) = ap Written (sym (append_assoc t u v))
-both_before t u (NotOf k) = refl
-both_before t u NoTree = refl
 
 before_none : (w : Writing) → w ≡ before [] w
 before_none (Written v) = refl
@@ -71,7 +66,7 @@ module _ (S : List Shape) (names : List (List ℕ)) (all : HasNames S names) {X 
           comes = is.node s ss (c, length js) (ds ++ es) k
               ∙ ap (λ o. on_name o k (λ e. before (piece k e.0 (length js) (closes s)) (w (waits e.1 (closes s) ++ ss) (ds ++ es) (suc k)))) (ap (λ j. by_shapes S names j (c, length js)) e ∙ n.1)
               ∙ ap (before p) r.comes
-              ∙ both_before p r.text (w ss es r.after);
+              ∙ before_both p r.text (w ss es r.after);
         }
 
     fields_come : {js : List ℕ} {ds : Data} → FieldsFit (members S) js ds → (c : ℕ) (ss : List X) (es : Data) (k : ℕ) → Comes (waits js c ++ ss) ss (ds ++ es) es k
@@ -87,7 +82,7 @@ module _ (S : List Shape) (names : List (List ℕ)) (all : HasNames S names) {X 
               ∙ ap (λ x. w (s ∷ (waits js c ++ ss)) x k) (append_assoc d ds es)
               ∙ t.comes
               ∙ ap (before t.text) r.comes
-              ∙ both_before t.text r.text (w ss es r.after);
+              ∙ before_both t.text r.text (w ss es r.after);
         }
 
 pub fitting_is_written : FittingDataIsWritten

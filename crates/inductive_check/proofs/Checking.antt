@@ -21,8 +21,9 @@ use Rattle.pc_rules.proofs.Following.{follows_fault}
 use Rattle.pc_rules.proofs.FairReduction.{FairComparison}
 use Rattle.pc_rules.proofs.FairTyping.{FairTyping}
 use Rattle.pc_rules.proofs.Leaving.{leaving}
-use Rattle.inductive_check.proofs.Leading.{leads_along, leads_done, follows_first}
+use Rattle.inductive_check.proofs.Leading.{leads_done, follows_first}
 use Rattle.pc_rules.proofs.ListSteps.{next_is, none_left}
+use Rattle.pc_rules.proofs.Leading.{leads_along}
 
 put_all_more : (xs : List Term) (t : Term) (s : ℕ → Term) → put_all (xs ++ (t ∷ [])) s ≡ first t (put_all xs s)
 put_all_more [] t s = refl

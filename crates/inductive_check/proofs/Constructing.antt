@@ -21,9 +21,10 @@ use Rattle.pc_rules.proofs.FairTyping.{FairTyping, constructors_leave, families_
 use Rattle.rule_laws.specs.Declarations.{ConstructorsFormed, FamiliesFormed}
 use Rattle.rule_laws.proofs.MatchRule.{all_formed}
 use Rattle.inductive_check.specs.Given.{ctor_of, family_of}
-use Rattle.inductive_check.proofs.Leading.{leads_along, collect_next, collect_first}
+use Rattle.inductive_check.proofs.Leading.{collect_next, collect_first}
 use Rattle.inductive_check.proofs.Distinct.{taken_more}
 use Rattle.pc_rules.proofs.ListSteps.{take_next, next_is, none_left}
+use Rattle.pc_rules.proofs.Leading.{leads_along}
 
 -- constructors
 

@@ -1,17 +1,18 @@
 -- Runs that have come to another one, and what follows them.
-use Rattle.std.proofs.Common.{◌≡◌, ◌∙◌, sym, ap, refl, subst, ◌||◌, Bool, false, Result, Ok, Err, List, [], ◌∷◌, ◌++◌, append_assoc, append-nil}
+use Rattle.std.proofs.Common.{◌≡◌, ◌∙◌, sym, ap, refl, ◌||◌, Bool, false, Result, Ok, Err, List, [], ◌∷◌, ◌++◌, append_assoc, append-nil}
 use Rattle.std.proofs.Math.Bool.{or_assoc, or-false}
 use Rattle.pc_rules.specs.declared.meter.Account.{Account}
 use Rattle.pc_rules.specs.declared.meter.Meter.{Meter}
-use Rattle.pc_rules.specs.declared.stop.Stop.TheVariants.{Spent, TooDeep, Memory}
+use Rattle.pc_rules.specs.declared.stop.Stop.TheVariants.{Memory}
 use Rattle.pc_rules.specs.declared.stop.Halt.{Halt}
-use Rattle.pc_rules.specs.declared.stop.Halt.TheVariants.{Stop, Broken as Refusal}
+use Rattle.pc_rules.specs.declared.stop.Halt.TheVariants.{Stop}
 use Rattle.pc_rules.specs.DirectedRun.{Run, End, Done, Refused, NoUnit, Nested, done, bind, end_then, deep_then, Leaves}
 use Rattle.pc_rules.specs.Follows.{Follows, IsAfter, Answers}
 use Rattle.pc_rules.specs.Leads.{Leads}
 use Rattle.pc_rules.proofs.Meters.{after-refl, after-trans}
 use Rattle.pc_rules.proofs.Fair.{leaves_bind, same_left}
 use Rattle.pc_rules.proofs.Following.{bind_end, bind_deep, follows_bind, follows_err, follows_memory, follows_still, bind_done, leaves_at, leads_leave}
+use Rattle.pc_rules.proofs.Leading.{bind_unit, leads_start, leads_along, follows_leads}
 
 end_assoc : {A B C : Type 0} (e : End A) (f : A → Account → End B) (g : B → Account → End C) →
     end_then (end_then e f) g ≡ end_then e (λ a u. end_then (f a u) g)
@@ -36,45 +37,11 @@ bind_assoc d f g = λ i. record {
   deep = deep_assoc d.deep d.end f g i;
 }
 
-end_unit : {A : Type 0} (e : End A) → e ≡ end_then e (λ a u. Done a u)
-end_unit (Done a u) = refl
-end_unit (Refused b u) = refl
-end_unit NoUnit = refl
-end_unit Nested = refl
-
-deep_unit : {A : Type 0} (x : Bool) (e : End A) → x ≡ (x || deep_then e (λ a u. false))
-deep_unit x (Done a u) = sym (or-false x)
-deep_unit x (Refused b u) = sym (or-false x)
-deep_unit x NoUnit = sym (or-false x)
-deep_unit x Nested = sym (or-false x)
-
--- a run, and then its result
-pub bind_unit : {A : Type 0} (d : Run A) → d ≡ bind d (λ a u. done a u)
-unfolding bind
-bind_unit d = λ i. record { end = end_unit d.end i; deep = deep_unit d.deep d.end i }
-
-pub leads_start : {A : Type 0} (d e : Run A) → d ≡ e → Leads d e
-leads_start d e p = subst (λ x. Leads d x) p (record { end = refl; deep = λ h. h })
-
-pub leads_along : {A : Type 0} (whole d e : Run A) → d ≡ e → Leads whole d → Leads whole e
-leads_along whole d e p l = subst (λ x. Leads whole x) p l
-
 -- the first part is done
 pub leads_done : {A B : Type 0} (whole : Run B) (d : Run A) (k : A → Account → Run B) (a : A) (u : Account) → Leads whole (bind d k) → d.end ≡ Done a u → Leads whole (k a u)
 leads_done whole d k a u l e = record { end = l.end ∙ bind_end d k a u e; deep = λ h. l.deep (bind_deep d k a u e h) }
 
 -- what follows the rest follows the whole
-
-answers_leads : {A : Type 0} (whole rest : Run A) (r : Result A Halt) (u : Account) → Leads whole rest → Answers rest r u → Answers whole r u
-answers_leads whole rest (Ok a) u l h = l.end ∙ h
-answers_leads whole rest (Err (Stop Spent)) u l h = (l.end ∙ h.0, h.1)
-answers_leads whole rest (Err (Stop TooDeep)) u l h = l.deep h
-answers_leads whole rest (Err (Stop Memory)) u l h = tt
-answers_leads whole rest (Err (Refusal b)) u l h = l.end ∙ h
-
-pub follows_leads : {A : Type 0} (whole rest : Run A) (r : Result A Halt) (m0 m1 m2 : Meter) → Leads whole rest → IsAfter m0 m1 → Follows rest r m1 m2 → Follows whole r m0 m2
-follows_leads whole rest r m0 m1 m2 l after f =
-    record { answer = answers_leads whole rest r m2.account l f.answer; after = after-trans m0 m1 m2 after f.after; leaves = leads_leave whole rest m2.account.left l f.leaves }
 
 -- the first part of the rest is refused or stops
 pub follows_first : {A B : Type 0} (whole : Run B) (d : Run A) (k : A → Account → Run B) (h : Halt) (m0 m1 m2 : Meter) → Leads whole (bind d k) → IsAfter m0 m1 →

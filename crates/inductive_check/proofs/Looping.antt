@@ -16,9 +16,9 @@ use Rattle.pc_rules.specs.DirectedDeclarations.{positive_rule}
 use Rattle.pc_rules.specs.Follows.{Follows}
 use Rattle.pc_rules.proofs.Following.{follows_bind, follows_err, follows_done, follows_refused}
 use Rattle.pc_rules.proofs.Leaving.{leaving}
-use Rattle.inductive_check.proofs.Leading.{bind_unit}
 use Rattle.inductive_check.specs.declared.waiting.Test.{Test}
 use Rattle.inductive_check.specs.Waiting.{Waiting, waiting, type_waits, each_test, Goes}
+use Rattle.pc_rules.proofs.Leading.{bind_unit}
 
 -- a test is put behind those that wait
 pub pushed : (old new : List Test) (t : Test) → new ≡ old ++ (t ∷ []) → map waiting new ≡ map waiting old ++ (waiting t ∷ [])

@@ -14,6 +14,7 @@ use Rattle.calculus_rules.proofs.Spines.{head-apply, args-apply, drop_past}
 use Rattle.first_order.specs.declared.shapes.Shape.{Shape}
 use Rattle.first_order.specs.Reading.{Reading, Read, NotAt, TooMany, field, fields, is_family, arguments_of, node_in, node_of, put_first, on_node, read_on, plain_ctor, plain_type, reading}
 use Rattle.first_order.proofs.NodeByNode.{read_none, read_past, read_next}
+use Rattle.first_order.proofs.AllRead.{all_long}
 
 read_not : {ds : List (ℕ × ℕ)} {k : ℕ} → Read ds ≡ NotAt k → ⊥
 read_not e = absurd (cc)
@@ -33,10 +34,6 @@ joined_fields (j ∷ js) is [] xs l = absurd (omega arith)
 joined_fields (j ∷ js) is (y ∷ ys) xs l = ap (λ fs. field j y ∷ fs) (joined_fields js is ys xs (omega arith))
 
 module _ (E : Env) (S : List Member) where
-  as_long : {js : List ℕ} {xs : List Term} {ds : Data} → ReadsAll E S js xs ds → length xs ≡ length js
-  as_long no_field = refl
-  as_long (field_read r rs) = ap suc (as_long rs)
-
   both : {js ks : List ℕ} {xs ys : List Term} {ds es : Data} → ReadsAll E S js xs ds → ReadsAll E S ks ys es → (fs : Data) × ReadsAll E S (js ++ ks) (xs ++ ys) fs
   both {es = es} no_field q = (es, q)
   both (field_read {d = d} r rs) q = let (fs, t) = both rs q in (d ++ fs, field_read r t)
@@ -70,7 +67,7 @@ module _ (E : Env) (S : List Member) where
     fits_on n k j no_field e = read_not (sym (read_none types n k) ∙ e)
     fits_on zero k j (field_read {j = i} {js = is} {x = x} {xs = xs} r q) e = many_not (sym (read_past types zero k (field i x) (fields is xs) refl) ∙ e)
     fits_on (suc n) k j (field_read {j = i} {js = is} {x = x} {xs = xs} (reads {c = c} {h = h} {js = js} {qs = qs} {xs = ys} s t b rs) q) e =
-        let long = as_long rs in
+        let long = all_long E S rs in
         let next = behind_first (c, length (fields js ys)) _
         (sym (ap (λ o. on_node o k (λ b. read_on types n (b.1 ++ fields is xs) (suc k))) (node_known i x h c js qs ys s t b long))
         ∙ sym (read_next types (suc n) n k (field i x) (fields is xs) refl) ∙ e) in

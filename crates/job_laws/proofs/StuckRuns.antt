@@ -22,12 +22,13 @@ use Rattle.dump_reader.specs.declared.declaration.RawDecl.{RawDecl}
 use Rattle.dump_reader.specs.declared.declaration.RawDecl.TheVariants as raw
 use Rattle.dump_reader.specs.declared.environment.RawEnv.{RawEnv}
 use Rattle.first_order.specs.Reading.{Reading, NotAt}
-use Rattle.driver.proofs.Kept.{has_mapped, has_reversed, has_place, from_map}
+use Rattle.driver.proofs.Kept.{has_reversed, has_place}
 use Rattle.driver.specs.SourceEnds.{Ended, NoRule, IsRead, read_value, with_set, source_rule, IsStuck}
 use Rattle.progress.specs.Ends.{IsAxiom}
 use Rattle.progress.proofs.Consequences.{stuck_at_axioms, first_order_values_are_data}
 use Rattle.job_laws.specs.EvalLaws.{DeclaresAxiom, StuckEvalsMeetAxioms, NoEvalIsStuck}
 use Rattle.job_laws.proofs.ReadableValues.{data_fits}
+use Rattle.calculus_rules.proofs.Listing.{has_map, from_map}
 
 -- the run ends at an axiom
 abbrev AtAxiom : Env → End Ended → Account → Type 0
@@ -82,7 +83,7 @@ without_body (raw.Block l ps fs) k T e = absurd (cc)
 axiom_read : (e : RawEnv) (E : Env) (T : Term) → IsCheckedEnvironment e.levels e.constraints (givens e) e.main E T → (k : Name) → IsAxiom E k → DeclaresAxiom e k
 axiom_read e E T checked k (U, has) =
     let (i, d, at, is) = has_place plain_given (givens e)
-    (has_reversed (map plain_given (givens e)) (Constant k U None) (subst (λ xs. Has xs (Constant k U None)) checked.declarations (has_mapped plain has))) in
+    (has_reversed (map plain_given (givens e)) (Constant k U None) (subst (λ xs. Has xs (Constant k U None)) checked.declarations (has_map plain has))) in
     let (r, at', is') = from_map given_of (slice_get e.decls i) d (sym (slice_get-map given_of e.decls i) ∙ at) in
     (i, U, at' ∙ ap Some (without_body r k U (ap plain_given (sym is') ∙ is)))
 

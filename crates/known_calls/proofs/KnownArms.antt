@@ -10,7 +10,6 @@ use Rattle.closure_lift.specs.LiftedView.{branches_of}
 use Rattle.closure_lift.specs.LiftedWeight.{branches_weight}
 use Rattle.closure_lift.specs.declared.program.Lifted.{Lifted}
 use Rattle.closure_lift.specs.declared.program.LiftedBranch.{LiftedBranch}
-use Rattle.closure_lift.proofs.Noting.{next_of}
 use Rattle.wasm_core.specs.declared.instrs.Instr.{Instr}
 use Rattle.wasm_core.specs.declared.instrs.I32Op.TheVariants as op32
 use Rattle.wasm_core.specs.declared.instrs.Instr.TheVariants.{Else, End, LocalGet, LocalSet, I32 as Operation}
@@ -22,6 +21,7 @@ use Rattle.known_calls.specs.KnownTests.{Kind, Bare, Fielded, Alternative, Posit
 use Rattle.known_calls.specs.KnownCode.{atom}
 use Rattle.known_calls.specs.KnownPushed.{under_position, op_code, branch_code, alternative_of, kind_of, search_code, alone_code, few_bare_code, both_kinds_code, branches_code, counted, count_of, begins_with, is_last_of, TestedArms, ToldArms, OneArm}
 use Rattle.known_calls.proofs.KnownPushing.{under_one, under_none, under_sum}
+use Rattle.trees.proofs.Lists.{next_is}
 
 differ : false ≡ true → ⊥
 differ e = cc
@@ -89,10 +89,10 @@ back_lighter (suc i) (b ∷ bs) = omega (arith, back_lighter i bs)
 -- Branches from one on.
 
 pub count_here : (k : Kind) (bs : List LiftedBranch) (c : ℕ) (b : LiftedBranch) → c < length bs → b ≡ get_or bs c b → count_of k (branches_of (drop c bs)) ≡ counted (is_of k b.binders) (count_of k (branches_of (drop (c + 1) bs)))
-count_here k bs c b lt is = ap (λ (xs : List LiftedBranch). count_of k (branches_of xs)) (next_of bs c b lt is)
+count_here k bs c b lt is = ap (λ (xs : List LiftedBranch). count_of k (branches_of xs)) (next_is bs c b lt is)
 
 pub begins_here : (k : Kind) (bs : List LiftedBranch) (c : ℕ) (b : LiftedBranch) → c < length bs → b ≡ get_or bs c b → begins_with k (branches_of (drop c bs)) ≡ is_of k b.binders
-begins_here k bs c b lt is = ap (λ (xs : List LiftedBranch). begins_with k (branches_of xs)) (next_of bs c b lt is)
+begins_here k bs c b lt is = ap (λ (xs : List LiftedBranch). begins_with k (branches_of xs)) (next_is bs c b lt is)
 
 pub count_end : (k : Kind) (bs : List LiftedBranch) (c : ℕ) → length bs ≤ c → count_of k (branches_of (drop c bs)) ≡ 0
 count_end k bs c le = ap (λ (xs : List LiftedBranch). count_of k (branches_of xs)) (drop_all c bs le)
@@ -130,7 +130,7 @@ module _ (Q : Lifted) (env : List Place) (d : ℕ) (k : Kind) where
   all_length c (b ∷ bs) = keep_length (is_of k b.binders) (alternative_of Q env d c b) (all_of (suc c) bs) (count_of k (branches_of bs)) (all_length (suc c) bs)
 
   pub all_next : (c i n : ℕ) (bs : List LiftedBranch) (b : LiftedBranch) → i < length bs → b ≡ get_or bs i b → n ≡ suc c → all_of c (drop i bs) ≡ keep (is_of k b.binders) (alternative_of Q env d c b) (all_of n (drop (i + 1) bs))
-  all_next c i n bs b lt is e = ap (λ (xs : List LiftedBranch). all_of c xs) (next_of bs i b lt is) ∙ ap (λ (j : ℕ). keep (is_of k b.binders) (alternative_of Q env d c b) (all_of j (drop (i + 1) bs))) (sym e)
+  all_next c i n bs b lt is e = ap (λ (xs : List LiftedBranch). all_of c xs) (next_is bs i b lt is) ∙ ap (λ (j : ℕ). keep (is_of k b.binders) (alternative_of Q env d c b) (all_of j (drop (i + 1) bs))) (sym e)
 
   pub all_halves : (c n i : ℕ) (bs : List LiftedBranch) → n ≡ c + i → all_of c bs ≡ all_of c (take i bs) ++ all_of n (drop i bs)
   all_halves c n zero bs e = let same : c ≡ n = omega (arith, e) in ap (λ (j : ℕ). all_of j bs) same

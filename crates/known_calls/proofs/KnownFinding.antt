@@ -11,9 +11,9 @@ use Rattle.closure_lift.specs.LiftedView.{bounds_of, functions_of}
 use Rattle.closure_lift.specs.declared.program.LiftedOp.{LiftedOp}
 use Rattle.closure_lift.specs.declared.program.Function.{Function}
 use Rattle.closure_lift.specs.declared.program.LiftedConstant.{LiftedConstant}
-use Rattle.closure_lift.proofs.Noting.{next_of}
 use Rattle.known_calls.specs.KnownPlaces.{Word, Place, Known, word_of, words_of}
 use Rattle.known_calls.specs.KnownCode.{known_closure, closure_alone}
+use Rattle.trees.proofs.Lists.{next_is}
 
 -- the words of some atoms, the last one first, and of one more
 pub words_more : (env : List Place) (items : List Atom) (k : ℕ) (a : Atom) {w : Word} {ws : List Word} → k < length items → a ≡ get_or items k a → word_of env a ≡ Some w → words_of env (reverse (take k items)) ≡ Some ws →
@@ -35,7 +35,7 @@ words_absent env (x ∷ xs) ys a none = ap (λ (r : Option (List Word)). option_
 pub words_none : (env : List Place) (items : List Atom) (k : ℕ) (a : Atom) → k < length items → a ≡ get_or items k a → word_of env a ≡ None → words_of env (reverse items) ≡ None
 words_none env items k a lt is none =
     let whole : reverse items ≡ reverse (drop (k + 1) items) ++ a ∷ reverse (take k items) =
-    ap reverse (sym (take-append-drop k items) ∙ ap (λ (zs : List Atom). take k items ++ zs) (next_of items k a lt is)) ∙ reverse-append (take k items) (a ∷ drop (k + 1) items)
+    ap reverse (sym (take-append-drop k items) ∙ ap (λ (zs : List Atom). take k items ++ zs) (next_is items k a lt is)) ∙ reverse-append (take k items) (a ∷ drop (k + 1) items)
     ∙ ap (λ (zs : List Atom). zs ++ reverse (take k items)) (reverse-append (a ∷ []) (drop (k + 1) items)) ∙ assoc (reverse (drop (k + 1) items)) in
     ap (λ (zs : List Atom). words_of env zs) whole ∙ words_absent env (reverse (drop (k + 1) items)) (reverse (take k items)) a none
   where

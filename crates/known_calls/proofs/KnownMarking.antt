@@ -11,12 +11,12 @@ use Rattle.closure_lift.specs.LiftedProgram.{renumber_op, renumber, renumber_bra
 use Rattle.closure_lift.specs.LiftedView.{seen, bounds_of, branches_of}
 use Rattle.closure_lift.specs.declared.program.LiftedBranch.{LiftedBranch}
 use Rattle.closure_lift.specs.declared.program.LiftedOp.{LiftedOp}
-use Rattle.closure_lift.proofs.Noting.{next_of}
 use Rattle.known_calls.specs.KnownPlaces.{Times, Never, Once, More, ◌plus◌, is_read, is_twice, names, some_names, op_reads, block_reads, branches_read}
 use Rattle.known_calls.specs.KnownTests.{Kind, Bare, Fielded, is_of}
 use Rattle.known_calls.specs.KnownCode.{moves}
 use Rattle.known_calls.specs.KnownPushed.{counted, count_of}
 use Rattle.known_calls.specs.KnownMarks.{kind_marks, field_marks, branch_marks, block_marks, empty_marks, head_marks, bound_marks, bound_reads, empties_read, heads_read, Begins, also}
+use Rattle.trees.proofs.Lists.{next_is}
 
 -- What is read.
 
@@ -352,7 +352,7 @@ module _ (ops : List LiftedOp) (x : Bound) (b : Block) (n : ℕ) (whole : lets_o
         let j : n - 1 - k ≡ n - (k + 1) = omega arith in
         let s : n - (k + 1) + 1 ≡ n - k = omega arith in
         ap (λ (t : Block). past (n - (k + 1)) t) (sym whole) ∙ past_is ops x (n - (k + 1))
-        ∙ ap (λ (os : List LiftedOp). lets_of (bounds_of os) (ret_of x)) (next_of ops (n - (k + 1)) o (omega (arith, size, lt)) (is ∙ ap (λ (i : ℕ). get_or ops i o) j))
+        ∙ ap (λ (os : List LiftedOp). lets_of (bounds_of os) (ret_of x)) (next_is ops (n - (k + 1)) o (omega (arith, size, lt)) (is ∙ ap (λ (i : ℕ). get_or ops i o) j))
         ∙ ap (λ (i : ℕ). lets_of (seen o ∷ bounds_of (drop i ops)) (ret_of x)) s
 
     pub noted_more : (old notes new : List Times) → notes ≡ also (λ i. block_reads i (past (n - k) b)) (replicate (n - k) Never ++ old) → new ≡ also (λ i. bound_reads i (seen o)) (drop 1 notes) →
@@ -395,7 +395,7 @@ module _ (read : ℕ → BranchBlocks → Times) (marks_of : BranchBlocks → Li
     next_branch =
         let j : n - 1 - k ≡ n - (k + 1) = omega arith in
         let s : n - (k + 1) + 1 ≡ n - k = omega arith in
-        ap branches_of (next_of bs (n - (k + 1)) b (omega (arith, size, lt)) (is ∙ ap (λ (i : ℕ). get_or bs i b) j)) ∙ ap (λ (i : ℕ). BCons b.binders b.body (branches_of (drop i bs))) s
+        ap branches_of (next_is bs (n - (k + 1)) b (omega (arith, size, lt)) (is ∙ ap (λ (i : ℕ). get_or bs i b) j)) ∙ ap (λ (i : ℕ). BCons b.binders b.body (branches_of (drop i bs))) s
 
     pub arms_noted_more : (old notes new : List Times) → notes ≡ also (λ i. read i (branches_of (drop (n - k) bs))) old → new ≡ also (λ i. read i (branches_of (b ∷ []))) notes → new ≡ also (λ i. read i (branches_of (drop (n - (k + 1)) bs))) old
     arms_noted_more old notes new inv e =
@@ -465,7 +465,7 @@ module _ (items : List LiftedOp) (i : ℕ) (o : LiftedOp) (t : Block) (lt : i < 
   rest = lets_of (bounds_of (drop (i + 1) items)) t
 
   marks_now : block_marks (lets_of (bounds_of (drop i items)) t) ≡ is_read (block_reads 0 rest) ∷ (bound_marks (seen o) ++ block_marks rest)
-  marks_now = ap (λ (os : List LiftedOp). block_marks (lets_of (bounds_of os) t)) (next_of items i o lt is) ∙ block_marks_step (seen o) (bounds_of (drop (i + 1) items)) t
+  marks_now = ap (λ (os : List LiftedOp). block_marks (lets_of (bounds_of os) t)) (next_is items i o lt is) ∙ block_marks_step (seen o) (bounds_of (drop (i + 1) items)) t
 
   begin_now : Begins (is_read (block_reads 0 rest) ∷ (bound_marks (seen o) ++ block_marks rest)) all
   begin_now = subst (λ ms. Begins ms all) marks_now h
@@ -501,7 +501,7 @@ field_passed (suc (suc n)) t ne = (refl, refl)
 module _ (marks_of : BranchBlocks → List Bool) (marks_step : (n : ℕ) (t : Block) (bs : BranchBlocks) → marks_of (BCons n t bs) ≡ marks_of (BCons n t BNil) ++ marks_of bs)
     (bs : List LiftedBranch) (c : ℕ) (b : LiftedBranch) (lt : c < length bs) (is : b ≡ get_or bs c b) (all : List Bool) (h : Begins (marks_of (branches_of (drop c bs))) all) where
   arm_marks : marks_of (branches_of (drop c bs)) ≡ marks_of (branches_of (b ∷ [])) ++ marks_of (branches_of (drop (c + 1) bs))
-  arm_marks = ap (λ (xs : List LiftedBranch). marks_of (branches_of xs)) (next_of bs c b lt is) ∙ marks_step b.binders b.body (branches_of (drop (c + 1) bs))
+  arm_marks = ap (λ (xs : List LiftedBranch). marks_of (branches_of xs)) (next_is bs c b lt is) ∙ marks_step b.binders b.body (branches_of (drop (c + 1) bs))
 
   begin_arms : Begins (marks_of (branches_of (b ∷ [])) ++ marks_of (branches_of (drop (c + 1) bs))) all
   begin_arms = subst (λ ms. Begins ms all) arm_marks h

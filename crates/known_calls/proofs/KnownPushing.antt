@@ -9,7 +9,6 @@ use Rattle.closure_lift.specs.LiftedView.{seen, bounds_of}
 use Rattle.closure_lift.specs.declared.program.Lifted.{Lifted}
 use Rattle.closure_lift.specs.declared.program.LiftedBranch.{LiftedBranch}
 use Rattle.closure_lift.specs.declared.program.LiftedOp.{LiftedOp}
-use Rattle.closure_lift.proofs.Noting.{next_of}
 use Rattle.wasm_core.specs.declared.instrs.I32Op.TheVariants as op32
 use Rattle.wasm_core.specs.declared.instrs.Instr.{Instr}
 use Rattle.wasm_core.specs.declared.instrs.Instr.TheVariants.{LocalGet, LocalSet, LocalTee, GlobalGet, GlobalSet, I32 as Operation}
@@ -19,6 +18,7 @@ use Rattle.known_calls.specs.KnownPlaces.{Place, At, InLocal, Times, is_read, is
 use Rattle.known_calls.specs.KnownCode.{Position, Inside, InTail, deeper, choose, known, into_params, atom, fill, new_block, into_local, moves, move_field, branch_places, op, code, Final}
 use Rattle.known_calls.specs.KnownPushed.{under_position, bound_code, bound_unmade, place_bound, local_behind, bind_code, op_unmade, binding_code, block_code, branch_code}
 use Rattle.known_calls.proofs.KnownMarking.{reads_renumbered}
+use Rattle.trees.proofs.Lists.{next_is}
 
 -- Positions.
 
@@ -78,7 +78,7 @@ block_more Q items i o t ps ps2 d next at b old new out g lt is mark more after 
     ∙ x.is (behind (lifted_of Q) f (reverse ps) d at b (seen o) xs t rest)
     ∙ ap (λ (c : Bool). old ++ bind_code (lifted_of Q) (reverse ps) d (renumber_bound f (seen o)) (bound_unmade (lifted_of Q) (reverse ps) c (renumber_bound f (seen o))) (behind (lifted_of Q) f (reverse ps) d at c (seen o) xs t rest)) mark
     ∙ ap (λ (zs : List Instr). old ++ zs) (sym (code_step (lifted_of Q) f (reverse ps) d at (seen o) xs t rest))
-    ∙ ap (λ (os : List LiftedOp). old ++ block_code Q (reverse ps) d at (lets_of (bounds_of os) t) rest) (sym (next_of items i o lt is))
+    ∙ ap (λ (os : List LiftedOp). old ++ block_code Q (reverse ps) d at (lets_of (bounds_of os) t) rest) (sym (next_is items i o lt is))
     ∙ inv rest
 
 -- A branch's code, where its field was moved or not.
@@ -106,7 +106,7 @@ pub fill_step : (env : List Place) (d : ℕ) (slice atoms : List Atom) (k : ℕ)
 fill_step env d slice atoms k a rest same lt is =
     let size : length atoms ≡ length slice = sym (ap length same) ∙ length-reverse slice in
     let here : a ≡ get_or atoms k a = is ∙ sym (get_or-reverse slice k a lt) ∙ ap (λ (xs : List Atom). get_or xs k a) same in
-    let more = next_of atoms k a (omega arith) here in
+    let more = next_is atoms k a (omega arith) here in
     let count = length-drop (k + 1) atoms in
     let bytes : 4 * suc (length (drop (k + 1) atoms)) ≡ 4 * (length slice - k) = omega arith in
     ap (λ (xs : List Atom). fill env d xs rest) more ∙ ap (λ (o : ℕ). LocalGet d ∷ atom env a (StoreWord o ∷ fill env d (drop (k + 1) atoms) rest)) bytes

@@ -29,10 +29,6 @@ one_of_name name xs all {x} {y} h g same =
 pub unique_family : (P : BoxProgram) → IsBoxProgram P → (f : FamilyId) (F G : BoxFamily) → KeepsBoxFamily P f F → KeepsBoxFamily P f G → F ≡ G
 unique_family P ok f F G h g = one_of_name (λ F. F.id) P.families ok.distinct_families h.0 g.0 (h.1 ∙ sym g.1)
 
-pub has_map : {A B : Type 0} (f : A → B) {xs : List A} {x : A} → Has xs x → Has (map f xs) (f x)
-has_map f here = here
-has_map f (there h) = there (has_map f h)
-
 -- the families that are found
 
 pub same_family_is : (f g : FamilyId) → same_family f g ≡ true → f ≡ g

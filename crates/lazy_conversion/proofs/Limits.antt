@@ -1,5 +1,5 @@
 -- Parts of terms that pass the limits of terms in memory.
-use Rattle.std.proofs.Common.{◌≡◌, ℕ, zero, suc, ◌<◌, ◌≤◌, ◌^◌, ◌⊎◌, inl, inr, List, [], ◌∷◌, ◌++◌, length, get_or, refl, sym, subst, arith}
+use Rattle.std.proofs.Common.{◌≡◌, ℕ, zero, suc, ◌<◌, ◌⊎◌, inl, inr, List, [], ◌∷◌, ◌++◌, length, get_or, refl, sym, subst, arith}
 use Rattle.trees.specs.Tree.{terms_of}
 use Rattle.trees.specs.Measures.{depth_trees, above_trees, IsBeyond, AreBeyond}
 use Rattle.pc_terms.specs.Syntax.{Term, App, head, args}
@@ -15,10 +15,7 @@ use Rattle.lazy_conversion.specs.Shapes.{product_of}
 use Rattle.lazy_conversion.specs.Stuck.{type_list, body_list, DefsBeyond}
 use Rattle.lazy_conversion.specs.Tracks.{EitherBeyond, AnyBeyond}
 use Rattle.lazy_conversion.specs.declared.shapes.Binder.{Binder}
-
-larger : {a b c d : ℕ} → a ≤ c → b ≤ d → (2048 < a) ⊎ (2 ^ 32 < b) → (2048 < c) ⊎ (2 ^ 32 < d)
-larger h g (inl e) = inl (omega arith)
-larger h g (inr e) = inr (omega arith)
+use Rattle.pc_terms.proofs.Parts.{larger}
 
 -- heads and arguments
 

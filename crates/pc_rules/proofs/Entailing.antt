@@ -1,6 +1,6 @@
 -- The test of entailment that computes decides entailment.
 use Rattle.std.proofs.Common.{◌≡◌, ◌≢◌, ◌↔◌, IsTrue, ℕ, zero, suc, ◌<◌, ◌≤◌, ◌==◌, ◌&&◌, ◌||◌, Bool, true, false, nat_le, if◌then◌else◌, List, [], ◌∷◌, length, get_or, refl, sym, ap, subst, arith}
-use Rattle.std.proofs.lemmas.Bool.{eqb-true}
+use Rattle.std.proofs.lemmas.Bool.{eqb-true, and_from}
 use Rattle.std.proofs.lemmas.Bool.Decides.{nat_tests}
 use Rattle.std.specs.List.{All, Any}
 use Rattle.universe_levels.specs.declared.level.LevelExpr.{LevelExpr}
@@ -17,7 +17,6 @@ use Rattle.universe_graph.proofs.Refuting.{covered-entails, entails-covered}
 use Rattle.pc_rules.specs.DirectedComparison.{IsTest}
 use Rattle.pc_rules.specs.Entailment.{are_ends, step_of, constraint_steps, own_step, first_spans, closed_below, spans, covers_part, some_covers, covers, entailed_by}
 use Rattle.pc_rules.proofs.WeakNext.{both_true}
-use Rattle.pc_rules.proofs.SameTrees.{and_true}
 
 -- a valuation that meets the constraints follows their steps
 
@@ -172,7 +171,7 @@ is_covers : (s : ℕ → ℕ → ℕ) (low high : List LevelExpr) → IsCovered 
 is_covers s [] high c = refl
 is_covers s (l ∷ ls) high c =
     let first = c 0 l (omega arith) in
-    and_true (some_covers s l high) (covers s ls high) (is_some_at s l high first.0 first.1 first.2 first.3 first.4)
+    and_from (some_covers s l high) (covers s ls high) (is_some_at s l high first.0 first.1 first.2 first.3 first.4)
     (is_covers s ls high (λ k d h. c (suc k) d (omega arith)))
 
 -- what the test says holds, for any constraints

@@ -22,3 +22,4 @@ pub mod WholeSteps
 pub mod EvaluationNext
 pub mod Collected
 pub mod Variables
+pub mod Leading

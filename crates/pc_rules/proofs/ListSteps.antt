@@ -1,11 +1,7 @@
 -- What is left of a list from an item on, and what stands before the next.
-use Rattle.std.proofs.Common.{◌≡◌, ◌∙◌, sym, ap, ℕ, zero, suc, ◌<◌, ◌≤◌, ◌+◌, min, ◌⊎◌, inl, inr, List, [], ◌∷◌, ◌++◌, length, drop, take, get_or, add-one, arith, refl}
-use Rattle.std.proofs.Math.Seq.{drop-cons}
+use Rattle.std.proofs.Common.{◌≡◌, ◌∙◌, sym, ap, ℕ, zero, suc, ◌<◌, ◌≤◌, ◌+◌, min, ◌⊎◌, inl, inr, List, [], ◌∷◌, ◌++◌, length, drop, take, get_or, arith}
 use Rattle.std.proofs.lemmas.List.{drop_all, take_more}
-
--- item i and those after it
-pub next_is : {A : Type 0} (xs : List A) (i : ℕ) (a : A) → i < length xs → a ≡ get_or xs i a → drop i xs ≡ a ∷ drop (i + 1) xs
-next_is xs i a h e = rw (add-one, drop-cons xs i a h, ← e) refl
+pub use Rattle.trees.proofs.Lists.{next_is}
 
 pub none_left : {A : Type 0} (xs : List A) (i : ℕ) → length xs ≤ i → drop i xs ≡ []
 none_left xs i h = drop_all i xs h

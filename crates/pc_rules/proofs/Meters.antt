@@ -1,5 +1,5 @@
 -- Meters one after the other.
-use Rattle.std.proofs.Common.{◌≡◌, ◌∙◌, ℕ, zero, suc, ◌≤◌, ◌-◌, List, [], ◌∷◌, get_or, set, arith, refl}
+use Rattle.std.proofs.Common.{◌≡◌, ◌∙◌, ◌↔◌, Bool, true, false, IsTrue, ℕ, zero, suc, ◌≤◌, ◌<◌, ◌-◌, List, [], ◌∷◌, get_or, set, arith, refl}
 use Rattle.std.proofs.lemmas.Bool.Decides.{nat_tests}
 use Rattle.pc_rules.specs.declared.meter.Meter.{Meter}
 use Rattle.pc_rules.specs.DirectedRun.{ticked, noted, one_more}
@@ -29,3 +29,9 @@ one_more_le n = grind (arith, nat_tests)
 pub after-note : (r : ℕ) (m n : Meter) → n.account ≡ noted r m.account → n.nest ≡ m.nest → IsAfter m n
 after-note r m n e h =
     record { nest = h; left = rw e (omega arith); uses = λ i. rw e (set_keeps m.account.uses (r - 1) i _ (one_more_le _)) }
+
+-- a test for more that fails
+pub no_more : (b : Bool) (n : ℕ) → (IsTrue b ↔ (0 < n)) → b ≡ false → n ≡ 0
+no_more true n h e = absurd (cc)
+no_more false zero h e = refl
+no_more false (suc n) h e = let t : false ≡ true = h.1 (omega arith) in absurd cc

@@ -1,6 +1,6 @@
 -- The test of sameness is true of two terms exactly where they are one tree.
 use Rattle.std.proofs.Common.{◌≡◌, ℕ, ◌==◌, ◌&&◌, Bool, true, false, IsTrue, ◌↔◌, List, [], ◌∷◌, refl, ap, subst}
-use Rattle.std.proofs.lemmas.Bool.{eqb-true, eq-eqb}
+use Rattle.std.proofs.lemmas.Bool.{eqb-true, eq-eqb, and_from}
 use Rattle.trees.proofs.Fusion.{child, group}
 use Rattle.universe_levels.specs.declared.level.LevelExpr.{LevelExpr}
 use Rattle.universe_levels.specs.declared.sort.Sort.{Sort}
@@ -9,10 +9,6 @@ use Rattle.pc_terms.specs.declared.leaf.FamilyId.{FamilyId}
 use Rattle.pc_terms.specs.Syntax.{Slot, slots, Term, Terms, Children, End, Child, Group, Done, Next, Rel, Node, Label, SortOf, ProdOf, LambdaOf, LetInOf, AppOf, ConstOf, IndOf, ConstructOf, CaseOf, FixOf}
 use Rattle.calculus_rules.specs.Same.{same_numbers, same_parts, same_sorts, same_names, same_families, same_labels, same, same_children, same_terms}
 use Rattle.pc_rules.proofs.WeakNext.{same_names_is, same_families_is, both_true}
-
-pub and_true : (a b : Bool) → a ≡ true → b ≡ true → (a && b) ≡ true
-and_true true b p q = q
-and_true false b p q = p
 
 pub same_numbers_is : (ms ns : List ℕ) → same_numbers ms ns ≡ true → ms ≡ ns
 same_numbers_is [] [] e = refl
@@ -90,20 +86,20 @@ one_number n = eq-eqb n n refl
 
 pub one_list : (ns : List ℕ) → same_numbers ns ns ≡ true
 one_list [] = refl
-one_list (n ∷ ns) = and_true (n == n) (same_numbers ns ns) (one_number n) (one_list ns)
+one_list (n ∷ ns) = and_from (n == n) (same_numbers ns ns) (one_number n) (one_list ns)
 
 one_universe : (ps : List LevelExpr) → same_parts ps ps ≡ true
 one_universe [] = refl
 one_universe (p ∷ ps) =
-    and_true (p.level.0 == p.level.0) ((p.add == p.add) && same_parts ps ps) (one_number p.level.0)
-    (and_true (p.add == p.add) (same_parts ps ps) (one_number p.add) (one_universe ps))
+    and_from (p.level.0 == p.level.0) ((p.add == p.add) && same_parts ps ps) (one_number p.level.0)
+    (and_from (p.add == p.add) (same_parts ps ps) (one_number p.add) (one_universe ps))
 
 one_sort : (s : Sort) → same_sorts s s ≡ true
 one_sort Prop = refl
 one_sort (Of u) = one_universe u
 
 pub one_family : (f : FamilyId) → same_families f f ≡ true
-one_family f = and_true (same_names f.block f.block) (f.family == f.family) (one_number f.block.0) (one_number f.family)
+one_family f = and_from (same_names f.block f.block) (f.family == f.family) (one_number f.block.0) (one_number f.family)
 
 one_label : (l : Label) → same_labels l l ≡ true
 one_label (SortOf s) = one_sort s
@@ -113,26 +109,26 @@ one_label LetInOf = refl
 one_label AppOf = refl
 one_label (ConstOf k) = one_number k.0
 one_label (IndOf f) = one_family f
-one_label (ConstructOf f c) = and_true (same_families f f) (c == c) (one_family f) (one_number c)
-one_label (CaseOf f n) = and_true (same_families f f) (n == n) (one_family f) (one_number n)
-one_label (FixOf i rargs) = and_true (i == i) (same_numbers rargs rargs) (one_number i) (one_list rargs)
+one_label (ConstructOf f c) = and_from (same_families f f) (c == c) (one_family f) (one_number c)
+one_label (CaseOf f n) = and_from (same_families f f) (n == n) (one_family f) (one_number n)
+one_label (FixOf i rargs) = and_from (i == i) (same_numbers rargs rargs) (one_number i) (one_list rargs)
 
 mutual
   unfolding same
 
   pub same_itself : (t : Term) → same t t ≡ true
   same_itself (Rel i) = one_number i
-  same_itself (Node l ts) = and_true (same_labels l l) (same_children ts ts) (one_label l) (children_themselves ts)
+  same_itself (Node l ts) = and_from (same_labels l l) (same_children ts ts) (one_label l) (children_themselves ts)
 
   children_themselves : {ss : List Slot} (ts : Children ss) → same_children ts ts ≡ true
   children_themselves End = refl
-  children_themselves (Child t ts) = and_true (same t t) (same_children ts ts) (same_itself t) (children_themselves ts)
-  children_themselves (Group us ts) = and_true (same_terms us us) (same_children ts ts) (terms_themselves us) (children_themselves ts)
+  children_themselves (Child t ts) = and_from (same t t) (same_children ts ts) (same_itself t) (children_themselves ts)
+  children_themselves (Group us ts) = and_from (same_terms us us) (same_children ts ts) (terms_themselves us) (children_themselves ts)
 
   terms_themselves : (ts : Terms) → same_terms ts ts ≡ true
   terms_themselves Done = refl
   terms_themselves (Next n t ts) =
-      and_true (n == n) (same t t && same_terms ts ts) (one_number n) (and_true (same t t) (same_terms ts ts) (same_itself t) (terms_themselves ts))
+      and_from (n == n) (same t t && same_terms ts ts) (one_number n) (and_from (same t t) (same_terms ts ts) (same_itself t) (terms_themselves ts))
 
 -- the test of sameness by any test that decides it
 

@@ -3,6 +3,7 @@ use Rattle.std.proofs.Common.{◌≡◌, ℕ, zero, suc, ◌<◌, ◌-◌, Bool,
 use Rattle.pc_rules.specs.declared.meter.Account.{Account}
 use Rattle.pc_rules.specs.DirectedRun.{Run, End, Done, Refused, NoUnit, Nested, done, passing, paid, ticking, ticked, end_then, deep_then, bind, Leaves}
 use Rattle.pc_rules.proofs.Fair.{leaves_less}
+use Rattle.std.proofs.Math.Bool.{or_assoc}
 
 pub record Agrees {A : Type 0} (n : ℕ) (f g : Account → Run A) : Type 0 where
   pub same : (u : Account) → u.left < n → f u ≡ g u
@@ -77,10 +78,6 @@ pub agrees_passing : (n : ℕ) (beyond : Bool) → Agrees n (λ u. passing beyon
 agrees_passing n beyond = record { same = λ u l. refl; falls = λ u l. omega arith }
 
 -- parts of runs that follow each other
-
-or_assoc : (a b c : Bool) → (a || b) || c ≡ a || (b || c)
-or_assoc true b c = refl
-or_assoc false b c = refl
 
 module _ {A B C : Type 0} (k : A → Account → Run B) (l : B → Account → Run C) where
   end_assoc : (e : End A) → end_then (end_then e (λ a v. (k a v).end)) (λ b v. (l b v).end) ≡ end_then e (λ a v. end_then (k a v).end (λ b w. (l b w).end))

@@ -5,3 +5,4 @@ pub mod Applied
 pub mod Forms
 pub mod Numbered
 pub mod Unlifted
+pub mod Depths

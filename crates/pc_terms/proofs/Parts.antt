@@ -38,7 +38,7 @@ rargs_length [] = refl
 rargs_length (d ∷ ds) = omega (arith, rargs_length ds)
 
 -- where one item is beyond the limits, the list is
-larger : {a b c d : ℕ} → a ≤ c → b ≤ d → (2048 < a) ⊎ (2 ^ 32 < b) → (2048 < c) ⊎ (2 ^ 32 < d)
+pub larger : {a b c d : ℕ} → a ≤ c → b ≤ d → (2048 < a) ⊎ (2 ^ 32 < b) → (2048 < c) ⊎ (2 ^ 32 < d)
 larger h g (inl e) = inl (omega arith)
 larger h g (inr e) = inr (omega arith)
 

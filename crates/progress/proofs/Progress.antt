@@ -14,7 +14,7 @@ use Rattle.calculus_rules.specs.Lookups.{kept_at, body_of}
 use Rattle.pc_rules.specs.DirectedWeakHead.{built, branch_of}
 use Rattle.pc_rules.specs.DirectedEvaluation.{Evaluated, Stuck, Evaluating, on_value, with_value, contracted, contracts, takes_more, unfolding_at, extended, applied, node, evaluate}
 use Rattle.pc_rules.proofs.WeakNext.{none_some, body_found}
-use Rattle.pc_rules.proofs.EvaluationReached.{kept_there}
+use Rattle.pc_rules.proofs.EvaluationReached.{kept_there, branch_there}
 use Rattle.typing_laws.proofs.Generating.{of_rel, of_let_in, of_app, of_const, of_case}
 use Rattle.type_laws.specs.Contexts.{IsContext}
 use Rattle.type_laws.proofs.RootsKeep.{constant_keeps}
@@ -23,7 +23,7 @@ use Rattle.type_laws.proofs.Canonical.{values_are_constructors}
 use Rattle.type_laws.proofs.EvaluationKeeps.{evaluation_keeps, let_contracts, beta_contracts, unfold_contracts, enter_contracts}
 use Rattle.progress.specs.Ends.{Progresses, gives, spends, meets}
 use Rattle.progress.specs.Laws.{EvaluationProgresses}
-use Rattle.progress.proofs.Tests.{GoesOn, grows, turns, branch_found}
+use Rattle.progress.proofs.Tests.{GoesOn, grows, turns}
 use Rattle.progress.proofs.Continuing.{goes_on}
 use Rattle.progress.proofs.Entering.{has_branch}
 
@@ -114,7 +114,7 @@ entered_progresses : (E : Env) → IsAccepted E → (go : Evaluating) → Going 
     Progresses E (Case f ps p ret s bs) T (contracts go (Case f ps p ret s bs) (branch_of bs f (built E v)) u).end
 entered_progresses E h go g f ps bs p c n ret s v T qs xs u d ev i =
     let (body, b) = has_branch E h f c p ps bs ret s v T qs xs d i in
-    subst (λ o. Progresses E (Case f ps p ret s bs) T (contracts go (Case f ps p ret s bs) o u).end) (sym (branch_found E h f c v bs qs xs body i b))
+    subst (λ o. Progresses E (Case f ps p ret s bs) T (contracts go (Case f ps p ret s bs) o u).end) (sym (branch_there E h f c v bs qs xs body i b))
     (contractum go u g (enter_contracts E h f ps bs p c ret s v body qs xs (evaluation_keeps E h ev) i b T d) (λ w m ev'. (suc (n + m), enter ev i b ev')))
 
 case_progresses : (E : Env) → IsAccepted E → (go : Evaluating) → Going E go → (f : FamilyId) (ps bs : Terms) (p : ℕ) (ret s T : Term) → Types bare E [] (Case f ps p ret s bs) T → (u : Account) →

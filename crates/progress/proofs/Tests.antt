@@ -2,19 +2,17 @@
 use Rattle.std.proofs.Common.{◌≡◌, ℕ, ◌+◌, ◌<◌, ◌≤◌, ◌==◌, true, false, if◌then◌else◌, List, ◌++◌, length, Some, None, slice_get, ap, ◌∙◌, refl, arith}
 use Rattle.std.proofs.lemmas.Bool.{eq-eqb, lt-ltb, le-ltb}
 use Rattle.pc_terms.specs.declared.leaf.FamilyId.{FamilyId}
-use Rattle.pc_terms.specs.Syntax.{Term, Terms, Rel, App, Ind, Construct, Fix, put_all, substitute, apply, head, args, term_at}
+use Rattle.pc_terms.specs.Syntax.{Term, Terms, App, Ind, Construct, Fix, apply, head, args, term_at}
 use Rattle.calculus_rules.specs.declared.declaration.Constructor.{Constructor}
 use Rattle.calculus_rules.specs.Environment.{Env, FamilyDecl, KeepsFamily}
 use Rattle.calculus_rules.specs.Accepted.{IsAccepted}
 use Rattle.calculus_rules.specs.Instances.{unfolded}
-use Rattle.calculus_rules.specs.Step.{IsConstructor}
 use Rattle.calculus_rules.specs.Evaluation.{TakesMore, family, constructor, fixpoint, Unfolds, unfolds}
 use Rattle.calculus_rules.specs.Lookups.{if_some}
-use Rattle.pc_rules.specs.DirectedWeakHead.{built, branch_of, unfold_at}
+use Rattle.pc_rules.specs.DirectedWeakHead.{unfold_at}
 use Rattle.pc_rules.specs.DirectedEvaluation.{is_missing, lacks_arguments, is_below, takes_more, unfolding_at}
 use Rattle.calculus_rules.proofs.Spines.{head-apply, args-apply}
-use Rattle.pc_rules.proofs.SameTrees.{one_family}
-use Rattle.pc_rules.proofs.EvaluationReached.{family_there, built_there}
+use Rattle.pc_rules.proofs.EvaluationReached.{family_there}
 
 -- a value that isn't a lambda goes on with an argument: it is extended, or unfolds; and the tests say so
 pub data GoesOn (E : Env) (g v : Term) : Type 0 where
@@ -51,12 +49,3 @@ fixpoint_turns E g v i rarg rargs types bodies body xs r l b e =
     ∙ ap (λ z. if z then unfold_at i rargs types bodies xs v else None) (eq-eqb (length xs) rarg l)
     ∙ ap (λ o. if_some o (λ (p : ℕ × Term). if p.0 == length rargs then Some (App (apply (unfolded rargs types bodies p.1) xs) v) else None)) b
     ∙ ap (λ z. if z then Some (App (apply (unfolded rargs types bodies body) xs) v) else None) (eq-eqb (length rargs) (length rargs) refl))
-
--- the branch of a constructor is found
-pub branch_found : (E : Env) → IsAccepted E → (f : FamilyId) (c : ℕ) (s : Term) (bs : Terms) (qs xs : List Term) (body : Term) → IsConstructor E f c s qs xs →
-    term_at bs c ≡ Some (length xs, body) → branch_of bs f (built E s) ≡ Some (substitute (put_all xs Rel) body)
-branch_found E h f c s bs qs xs body i b =
-    ap (branch_of bs f) (built_there E h f c s qs xs i)
-    ∙ ap (λ z. if z then if_some (term_at bs c) (λ p. if p.0 == length xs then Some (substitute (put_all xs Rel) p.1) else None) else None) (one_family f)
-    ∙ ap (λ o. if_some o (λ (p : ℕ × Term). if p.0 == length xs then Some (substitute (put_all xs Rel) p.1) else None)) b
-    ∙ ap (λ z. if z then Some (substitute (put_all xs Rel) body) else None) (eq-eqb (length xs) (length xs) refl)

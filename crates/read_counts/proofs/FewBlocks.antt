@@ -1,13 +1,10 @@
 -- Blocks whose counts are within the limits of the text: those that are read, and what the check keeps of them.
-use Rattle.std.proofs.Common.{◌≡◌, ℕ, zero, suc, ◌+◌, ◌≤◌, ◌<◌, List, [], ◌∷◌, length, map, Option, Some, None, Bool, true, false, nat_lt, refl, sym, subst, ◌∙◌, arith}
+use Rattle.std.proofs.Common.{◌≡◌, ℕ, zero, suc, ◌+◌, ◌≤◌, List, [], ◌∷◌, length, map, Some, None, subst, arith}
 use Rattle.std.specs.Prelude.{slice_get}
-use Rattle.std.proofs.lemmas.Bool.{ltb-true}
 use Rattle.std.proofs.lemmas.List.{length-map}
-use Rattle.dump_grammar.specs.declared.refusal.Limit.{Limit}
 use Rattle.dump_grammar.specs.declared.refusal.Limit.TheVariants as limits
-use Rattle.dump_grammar.specs.Named.{Named}
 use Rattle.dump_grammar.specs.Declarations.{Binding, CtorForm, FamilyForm, DeclForm, ConstantForm, BlockForm, binding_meaning, constructor_meaning, family_meaning, declaration_meaning}
-use Rattle.dump_grammar.specs.Limits.{unless, first, one_more_over}
+use Rattle.dump_grammar.specs.Limits.{first, one_more_over}
 use Rattle.dump_grammar.specs.Within.{bindings_over, form_over, forms_over, sort_over, ctor_over, ctors_over, family_over, families_over, declaration_over}
 use Rattle.dump_reader.specs.Numbered.{numbered_term}
 use Rattle.dump_reader.specs.NumberedEnvironment.{numbered_ctor, numbered_family, numbered_decl}
@@ -19,6 +16,7 @@ use Rattle.calculus_rules.specs.declared.declaration.Kept.{Kept}
 use Rattle.calculus_rules.specs.declared.declaration.Kept.TheVariants.{Constant, Heads, Block as Whole}
 use Rattle.rule_laws.specs.Declarations.{plain_constructor, plain_family, plain_block, plain_given}
 use Rattle.inductive_check.specs.Given.{ctor_of, family_of, given_of}
+use Rattle.dump_grammar.proofs.NoLimit.{none_both, one_more_fits}
 
 abbrev pub FewArguments : List Constructor → Type 0
 FewArguments [] = Unit {0}
@@ -34,17 +32,6 @@ FewKept (Heads B) = Unit {0}
 FewKept (Whole B) = (length B.params ≤ 255) × FewFamilies B.families
 
 -- limits
-
-pub none_both : (a b : Option Limit) → first a b ≡ None → (a ≡ None) × (b ≡ None)
-none_both None b h = (refl, h)
-none_both (Some l) b h = absurd (cc)
-
-test_holds : (b : Bool) (l : Limit) → unless b l ≡ None → b ≡ true
-test_holds true l h = refl
-test_holds false l h = absurd (cc)
-
-one_more_fits : (most : ℕ) (l : Limit) (n : ℕ) → one_more_over most l n ≡ None → n < most
-one_more_fits most l n h = ltb-true n most (test_holds (nat_lt n most) l h)
 
 -- what is read
 

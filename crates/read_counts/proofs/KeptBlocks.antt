@@ -1,12 +1,12 @@
 -- The families that an accepted environment keeps are those that were read, so their counts are within the limits of the text.
-use Rattle.std.proofs.Common.{◌≡◌, ℕ, suc, ◌+◌, ◌≤◌, List, [], ◌∷◌, ◌++◌, length, map, reverse, Option, Some, None, refl, sym, ap, subst, ◌∙◌, ◌⊎◌, inl, inr, arith}
-use Rattle.std.specs.Prelude.{slice_get, option_map}
+use Rattle.std.proofs.Common.{◌≡◌, ℕ, ◌+◌, ◌≤◌, List, [], ◌∷◌, ◌++◌, length, map, reverse, None, sym, ap, subst, ◌∙◌}
+use Rattle.std.specs.Prelude.{slice_get}
 use Rattle.std.proofs.lemmas.List.{reverse-append, length-map}
 use Rattle.sexp_reader.specs.Lex.{tokens_of}
 use Rattle.dump_grammar.specs.Numbering.{name_table, level_table}
 use Rattle.dump_grammar.specs.Terms.{Form}
 use Rattle.dump_grammar.specs.Declarations.{DeclForm, declaration_meaning}
-use Rattle.dump_grammar.specs.Environments.{Dump, env_of}
+use Rattle.dump_grammar.specs.Environments.{env_of}
 use Rattle.dump_grammar.specs.Table.{VEnv}
 use Rattle.dump_grammar.specs.Judge.{Fine}
 use Rattle.dump_grammar.specs.Limits.{first, one_more_over}
@@ -21,18 +21,17 @@ use Rattle.pc_terms.specs.declared.leaf.FamilyId.{FamilyId}
 use Rattle.pc_terms.specs.Syntax.{Term}
 use Rattle.calculus_rules.specs.declared.declaration.Constructor.{Constructor}
 use Rattle.calculus_rules.specs.declared.declaration.Family.{Family}
-use Rattle.calculus_rules.specs.declared.declaration.Block.{Block}
 use Rattle.calculus_rules.specs.declared.declaration.Kept.{Kept}
-use Rattle.calculus_rules.specs.declared.declaration.Kept.TheVariants.{Block as Whole}
-use Rattle.calculus_rules.specs.Environment.{Env, Has, here, there, FamilyDecl, KeepsFamily, with_parameters}
-use Rattle.rule_laws.specs.Declarations.{plain, plain_given, plain_block, IsCheckedEnvironment}
+use Rattle.calculus_rules.specs.Environment.{Env, Has, here, there, with_parameters}
+use Rattle.rule_laws.specs.Declarations.{plain, plain_given, IsCheckedEnvironment}
 use Rattle.inductive_check.specs.Given.{given_of}
 use Rattle.env_check.specs.Rules.{givens}
 use Rattle.lambda_box.specs.BoxForm.{AreFew, HasFewCounts}
-use Rattle.lambda_box.proofs.Families.{has_map}
 use Rattle.erase_laws.specs.ErasedProgram.{arguments_of, counts_of}
 use Rattle.erase_rules.specs.Laws.{AreFewCounts}
-use Rattle.read_counts.proofs.FewBlocks.{FewArguments, FewKept, none_both, few_declaration, few_block, few_at}
+use Rattle.read_counts.proofs.FewBlocks.{FewArguments, FewKept, few_declaration, few_block, few_at}
+use Rattle.calculus_rules.proofs.Listing.{has_map, from_map}
+use Rattle.dump_grammar.proofs.NoLimit.{none_both}
 
 -- members of lists
 
@@ -92,10 +91,6 @@ has_few f Ps G p h = record {
   params = p;
   args = few_numbers G.ctors h.1;
 }
-
-from_map : {X Y : Type 0} (g : X → Y) (o : Option X) (y : Y) → option_map g o ≡ Some y → (x : X) × (o ≡ Some x) × (y ≡ g x)
-from_map g None y e = absurd cc
-from_map g (Some x) y e = let q : y ≡ g x = cc in (x, refl, q)
 
 pub few_counts : (e : RawEnv) → IsSpelled e → (E : Env) (T : Term) → IsCheckedEnvironment e.levels e.constraints (givens e) e.main E T → AreFewCounts E
 few_counts e spelled E T checked f F (B, has, name, at) =

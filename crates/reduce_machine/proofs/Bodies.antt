@@ -10,7 +10,7 @@ use Rattle.redexes.specs.Redexes.{fix_body, unfold_next}
 use Rattle.redexes.proofs.Unfolding.{bodies_found, unfolds_at}
 use Rattle.reduce_machine.specs.Reads.{stands, read}
 use Rattle.reduce_machine.specs.declared.bindings.Lazy.{Lazy}
-use Rattle.reduce_machine.proofs.Standing.{put_all-over}
+use Rattle.trees.proofs.Exchange.{put_over}
 
 -- the definitions of a term are as many as their recursive arguments, also under bindings
 pub unfolds_read : (ds : List Def) (i : ℕ) (f : Lazy) → Fix i (rargs_of ds) (types_of ds) (bodies_of (length ds) ds) ≡ f.term → i < length (rargs_of ds) →
@@ -28,7 +28,7 @@ unfolds_read ds i f e l xs a =
 -- a single definition
 single : (d : Def) (s : ℕ → Term) → substitute (first (substitute s (Fix 0 (d.rarg ∷ []) (Next 0 d.ty Done) (Next 1 d.body Done))) s) d.body
     ≡ fix_body (substitute s (Fix 0 (d.rarg ∷ []) (Next 0 d.ty Done) (Next 1 d.body Done)))
-single d s = sym (put_all-over (substitute s (Fix 0 (d.rarg ∷ []) (Next 0 d.ty Done) (Next 1 d.body Done)) ∷ []) s d.body)
+single d s = sym (put_over (substitute s (Fix 0 (d.rarg ∷ []) (Next 0 d.ty Done) (Next 1 d.body Done)) ∷ []) s d.body)
 
 pub body_bound : (ds : List Def) (i : ℕ) (d : Def) (f l : Lazy) → Fix i (rargs_of ds) (types_of ds) (bodies_of (length ds) ds) ≡ f.term → length ds ≡ 1 →
     slice_get ds i ≡ Some d → l.term ≡ d.body → l.env.items ≡ read f ∷ f.env.items → read l ≡ fix_body (read f)

@@ -209,11 +209,6 @@ ticks_on u v h e =
     let s : suc u.left ≡ u.left + 1 = omega arith in
     ap (λ n. ticks n v) l ∙ ap (ticks u.left) e ∙ ap (λ n. ticks n u) s
 
-pub no_more : (b : Bool) (n : ℕ) → (IsTrue b ↔ (0 < n)) → b ≡ false → n ≡ 0
-no_more true n d e = absurd (false≢true (sym e))
-no_more false zero d e = refl
-no_more false (suc n) d e = absurd (false≢true (d.1 (omega arith)))
-
 pub one_more : (b : Bool) (n : ℕ) → (IsTrue b ↔ (0 < n)) → b ≡ true → 0 < n
 one_more true n d e = d.0 refl
 one_more false n d e = absurd (false≢true e)

@@ -30,9 +30,9 @@ use Rattle.pc_terms.specs.declared.term.MakeFault.TheVariants.{TooDeep}
 use Rattle.reduce_machine.specs.declared.values.Value.{Value}
 use Rattle.reduce_machine.specs.declared.steps.Step.{Step}
 use Rattle.reduce_machine.proofs.Arms.{arm_if}
-use Rattle.reduce_machine.proofs.Standing.{put_all-over}
 use Rattle.reduce_machine.proofs.HeadKinds.{fix_head, fix_args}
 use Rattle.reduce_machine.proofs.Nesting.{nested_head, argument_deep}
+use Rattle.trees.proofs.Exchange.{put_over}
 
 variable_not_beyond : (t : Term) → IsBeyond {L = Label} {slots = slots} (Rel 0) → IsBeyond t
 variable_not_beyond t (inl h) = absurd (omega arith)
@@ -46,13 +46,13 @@ no_source t s e h = variable_not_beyond t (along (λ (x : Term). IsBeyond x) e h
 pub lambda_binds : (E : Env) (V : Values) (xs : List Term) (A b g a : Term) → g ≡ substitute (stands xs) (Lambda A b) →
     weak_next E V (App g a) ≡ Some (substitute (first a (stands xs)) b)
 lambda_binds E V xs A b g a e =
-    ap (λ x. weak_next E V (App x a)) e ∙ ap Some (put_all-over (a ∷ []) (stands xs) b)
+    ap (λ x. weak_next E V (App x a)) e ∙ ap Some (put_over (a ∷ []) (stands xs) b)
 
 -- a definition
 pub let_binds : (E : Env) (V : Values) (xs : List Term) (v B b t : Term) (l : Lazy) → LetIn v B b ≡ t → read l ≡ substitute (stands xs) v →
     weak_next E V (substitute (stands xs) t) ≡ Some (substitute (first (read l) (stands xs)) b)
 let_binds E V xs v B b t l e p =
-    sym (ap (λ x. weak_next E V (substitute (stands xs) x)) e) ∙ ap Some (put_all-over (substitute (stands xs) v ∷ []) (stands xs) b)
+    sym (ap (λ x. weak_next E V (substitute (stands xs) x)) e) ∙ ap Some (put_over (substitute (stands xs) v ∷ []) (stands xs) b)
     ∙ ap (λ y. Some (substitute (first y (stands xs)) b)) (sym p)
 
 -- a value with an argument more
@@ -92,7 +92,7 @@ arm_put : (s : ℕ → Term) (xs : List Term) (n : ℕ) (b : Term) (t : Bool) �
     (if t then Some (substitute (put_all xs Rel) (substitute (overs n s) b)) else None) ≡ put_in s xs (if t then Some b else None)
 arm_put s xs n b true e =
     let q : n ≡ length xs = eqb-true n (length xs) e in
-    ap (λ m. Some (substitute (put_all xs Rel) (substitute (overs m s) b))) q ∙ ap Some (put_all-over xs s b)
+    ap (λ m. Some (substitute (put_all xs Rel) (substitute (overs m s) b))) q ∙ ap Some (put_over xs s b)
 arm_put s xs n b false e = refl
 
 arms_put : (s : ℕ → Term) (xs : List Term) (o : Option (ℕ × Term)) →

@@ -1,14 +1,12 @@
 -- What variables stand for.
-use Rattle.std.proofs.Common.{◌≡◌, ℕ, zero, suc, ◌+◌, ◌-◌, ◌<◌, ◌≤◌, inl, inr, List, [], ◌∷◌, length, Some, refl, sym, ap, ◌∙◌, arith, slice_get, subst as along, Result, Ok, Err, IfOk, IfErr}
+use Rattle.std.proofs.Common.{◌≡◌, ℕ, zero, suc, ◌+◌, ◌-◌, ◌≤◌, inl, inr, List, [], ◌∷◌, length, Some, refl, sym, ap, ◌∙◌, arith, slice_get, subst as along, Result, Ok, Err, IfOk, IfErr}
 use Rattle.std.proofs.lemmas.Grind.{common_steps}
-use mathlib.Core.Path.{fun_ext}
 use Rattle.trees.specs.Tree.{Slot, End, Child, Group, Done, Next}
 use Rattle.trees.specs.Measures.{above, above_places, above_trees, loose, IsBeyond}
 use Rattle.trees.specs.Substitution.{deeper, walk, walk_places, walk_trees, lift_var, lift}
 use Rattle.trees.proofs.Closed.{Keeps, walk-closed}
-use Rattle.trees.proofs.Cutoffs.{walk-does, below, past, order, overs_below, overs_past, put_all-at, put_all-past, lift-shift}
-use Rattle.trees.proofs.Exchange.{substitute_overs_same, put_all-shifted_by}
-use Rattle.trees.proofs.Fusion.{substitute-substitute}
+use Rattle.trees.proofs.Cutoffs.{walk-does, overs_below, overs_past, lift-shift}
+use Rattle.trees.proofs.Exchange.{substitute_overs_same}
 use Rattle.trees.proofs.Put.{substitute_same, substitute_whole}
 use Rattle.trees.specs.Closed.{Closed}
 use Rattle.pc_terms.specs.declared.term.MakeFault.{MakeFault}
@@ -57,24 +55,6 @@ pub walk_read : (xs : List Term) (t : Term) → walk (stands_under xs) 0 t ≡ s
 walk_read xs t = walk_stands xs 0 t
 
 pub ruleset standing_laws = (stands-closed, stands-none)
-
--- terms put in for the variables that a substitution has passed by
-put_each : (xs : List Term) (s : ℕ → Term) (i : ℕ) → substitute (put_all xs Rel) (overs (length xs) s i) ≡ put_all xs s i
-put_each xs s i = elim (order (length xs) i) [
-  | below l ↦ below_case l
-  | past j e ↦ past_case j e
-]
-  where
-    below_case : i < length xs → substitute (put_all xs Rel) (overs (length xs) s i) ≡ put_all xs s i
-    below_case l = ap (substitute (put_all xs Rel)) (overs_below (length xs) s i l) ∙ put_all-at xs Rel (Rel 0) i l ∙ sym (put_all-at xs s (Rel 0) i l)
-
-    past_case : (j : ℕ) → i ≡ length xs + j → substitute (put_all xs Rel) (overs (length xs) s i) ≡ put_all xs s i
-    past_case j e =
-        ap (λ n. substitute (put_all xs Rel) (overs (length xs) s n)) e ∙ ap (substitute (put_all xs Rel)) (overs_past (length xs) s j)
-        ∙ put_all-shifted_by xs (s j) ∙ sym (put_all-past xs s j) ∙ sym (ap (put_all xs s) e)
-
-pub put_all-over : (xs : List Term) (s : ℕ → Term) (t : Term) → substitute (put_all xs Rel) (substitute (overs (length xs) s) t) ≡ substitute (put_all xs s) t
-put_all-over xs s t = substitute-substitute t (overs (length xs) s) (put_all xs Rel) ∙ ap (λ f. substitute f t) (fun_ext (put_each xs s))
 
 -- items bound one after the other
 abbrev pub onto : List Term → List Term → List Term

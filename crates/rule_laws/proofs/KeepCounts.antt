@@ -1,5 +1,5 @@
 -- Weak-head steps lead from well-counted terms to well-counted terms.
-use Rattle.std.proofs.Common.{◌≡◌, ℕ, zero, suc, ◌+◌, ◌<◌, List, [], ◌∷◌, ◌++◌, inl, inr, length, Option, Some, None, refl, ap, ◌∙◌, subst, slice_get, option_map, arith}
+use Rattle.std.proofs.Common.{◌≡◌, ℕ, zero, suc, ◌+◌, ◌<◌, List, [], ◌∷◌, ◌++◌, inl, inr, length, Option, Some, None, refl, ◌∙◌, subst, slice_get, option_map, arith}
 use Rattle.universe_levels.specs.Consistency.{IsSortOver}
 use Rattle.pc_terms.specs.declared.leaf.FamilyId.{FamilyId}
 use Rattle.pc_terms.specs.Syntax.{Term, Terms, Rel, Construct, Fix, put, put_all, apply}
@@ -16,6 +16,7 @@ use Rattle.pc_rules.specs.WellCounted.{IsCounted, AreCounted, AreCountedConstruc
 use Rattle.calculus_rules.proofs.Spines.{one_item}
 use Rattle.rule_laws.proofs.Counted.{rel_counted, put_counted, put_all_counted, substituted_counted, renamed_counted, app_counted, apply_counted, function_counted, parts_counted, term_counted}
 use Rattle.pc_rules.proofs.WeakNext.{none_some}
+use Rattle.calculus_rules.proofs.Telescopes.{under_none}
 
 -- contexts and their values
 
@@ -29,14 +30,10 @@ module _ (E : Env) where
   under_counted zero V h = h
   under_counted (suc n) V h = under_counted n V h
 
-  pub assumed_under : (n : ℕ) (V : Values) → under n (None ∷ V) ≡ None ∷ under n V
-  assumed_under zero V = refl
-  assumed_under (suc n) V = ap (λ W. None ∷ W) (assumed_under n V)
-
   -- the values under a telescope's entries
   pub values_extended : (c : Context) (As : List Term) → values (extend c As) ≡ under (length As) (values c)
   values_extended c [] = refl
-  values_extended c (A ∷ As) = values_extended (Assumed A ∷ c) As ∙ assumed_under (length As) (values c)
+  values_extended c (A ∷ As) = values_extended (Assumed A ∷ c) As ∙ under_none (length As) (values c)
 
   pub lifted_counted : (o : Option Term) {v : Term} → ((x : Term) → o ≡ Some x → IsCounted E x) → lifted o ≡ Some v → IsCounted E v
   lifted_counted None f e = absurd (none_some e)

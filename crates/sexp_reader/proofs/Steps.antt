@@ -4,7 +4,7 @@ use Rattle.std.proofs.Math.ListN.{drop_of_length-le}
 use Rattle.std.proofs.lemmas.Bool.{ne_eqb, eqb-true, or_cases, le-leb, lt-leb, lt-ltb, le-ltb}
 use Rattle.std.specs.Prelude.{nat_eq, not, eqb}
 use Rattle.sexp_reader.specs.Text.{Open, Close, Atom}
-use Rattle.sexp_reader.specs.Lex.{is_blank, is_atom_byte, atom_len, lex, longer, single, left, answer, rest, token, nesting_after}
+use Rattle.sexp_reader.specs.Lex.{Spanned, is_blank, is_atom_byte, atom_len, lex, longer, single, left, answer, rest, token, nesting_after}
 use Rattle.std.proofs.lemmas.List.{drop-drop, length-take, length-drop}
 use Rattle.std.specs.Prelude.{Err, slice_range}
 use Rattle.sexp_reader.specs.declared.TokenKind.TheVariants as kinds
@@ -154,3 +154,7 @@ module _ (bs : List ℕ) (nesting n : ℕ) (within : n < length bs) where
 
   pub close-gave : here ≡ 41 → left n bs ≡ record { start = n; text = Close } ∷ left (n + 1) bs
   close-gave h = single-is 41 h refl refl refl
+
+-- the tokens behind one are fewer
+pub shorter : (s : Spanned) (old new : List Spanned) → old ≡ s ∷ new → length new < length old
+shorter s old new e = rw e (omega arith)

@@ -19,13 +19,12 @@ use Rattle.box_passes.proofs.SaturatedWidths.{most_depth, main_fits, constant_fi
 use Rattle.box_passes.proofs.Widths.{plain, words_plain, words_none}
 use Rattle.anf_convert.specs.ToAnf.{number_in, to_anf}
 use Rattle.anf_convert.specs.ToAnfKeeps.{CanBeConverted}
-use Rattle.anf_convert.proofs.Prepared.{data_kept}
+use Rattle.anf_convert.proofs.Prepared.{data_kept, all_shallow}
 use Rattle.closure_lift.specs.CapturedLimit.{ProgramCaptures}
 use Rattle.back_end.proofs.CapturedWords.{code_few}
 use Rattle.back_end.proofs.Sizes.{constants_capture}
 use Rattle.compile.specs.Passes.{IsShallow}
 use Rattle.compile.proofs.Within.{main_shallow, constant_shallow}
-use Rattle.headline.proofs.LateReturns.{all_shallow}
 use Rattle.source_limits.specs.LambdaBinders.{lambda_binders, lambda_binders_terms, constants_binders}
 use Rattle.source_limits.specs.Laws.{SaturatedCapturesAreFew, WordsBoundCaptures}
 

@@ -84,6 +84,20 @@ pub put_all-shifted_by : {L : Type 0} {slots : L → List Slot} (xs : List (Tree
 put_all-shifted_by xs a =
     substitute-rename a (λ i. length xs + i) (put_all xs Rel) ∙ ap (λ q. substitute q a) (fun_ext (put_all-past xs Rel)) ∙ substitute_same a
 
+-- a substitution under the variables, and then the list
+pub put_over : {L : Type 0} {slots : L → List Slot} (xs : List (Tree L slots)) (s : ℕ → Tree L slots) (t : Tree L slots) →
+    substitute (put_all xs Rel) (substitute (overs (length xs) s) t) ≡ substitute (put_all xs s) t
+put_over xs s t = substitute-substitute t (overs (length xs) s) (put_all xs Rel) ∙ ap (λ q. substitute q t) (fun_ext each)
+  where
+    each_case : (j : ℕ) → Order (length xs) j → substitute (put_all xs Rel) (overs (length xs) s j) ≡ put_all xs s j
+    each_case j (below l) = ap (substitute (put_all xs Rel)) (overs_below (length xs) s j l) ∙ put_all_agree xs Rel s 0 (agree_none Rel s) j (omega arith)
+    each_case j (past p e) =
+        ap (λ i. substitute (put_all xs Rel) (overs (length xs) s i)) e ∙ ap (substitute (put_all xs Rel)) (overs_past (length xs) s p)
+        ∙ put_all-shifted_by xs (s p) ∙ sym (ap (put_all xs s) e ∙ put_all-past xs s p)
+
+    each : (j : ℕ) → substitute (put_all xs Rel) (overs (length xs) s j) ≡ put_all xs s j
+    each j = each_case j (order (length xs) j)
+
 pub put_all-shifted : {L : Type 0} {slots : L → List Slot} (k : ℕ) (xs : List (Tree L slots)) (t : Tree L slots) →
     substitute (overs k (put_all xs Rel)) (shift (length xs) k t) ≡ t
 put_all-shifted k xs t =

@@ -7,3 +7,4 @@ pub mod Bounds
 pub mod Operations
 pub mod Shape
 pub mod Every
+pub mod Lists

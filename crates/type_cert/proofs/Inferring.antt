@@ -7,13 +7,10 @@ use Rattle.pc_rules.specs.declared.stop.Stop.TheVariants.{Spent, TooDeep}
 use Rattle.pc_rules.specs.DirectedRun.{make, ticked}
 use Rattle.pc_rules.specs.DirectedComparison.{Test}
 use Rattle.pc_rules.specs.Entailment.{test_of}
-use Rattle.pc_rules.specs.WellCounted.{IsCounted}
 use Rattle.calculus_rules.specs.Environment.{Env}
 use Rattle.calculus_rules.specs.Context.{Context, values}
 use Rattle.calculus_rules.specs.Same.{same}
-use Rattle.calculus_rules.specs.WeakHead.{WeakSteps}
 use Rattle.rule_laws.specs.Inference.{IsInferred}
-use Rattle.rule_laws.proofs.KeepCounts.{values_counted, steps_counted}
 use Rattle.type_infer.specs.Ready.{IsReady}
 use Rattle.type_infer.proofs.Beginning.{decides}
 use Rattle.cert_rules.specs.declared.item.CertItem.{CertItem}
@@ -58,10 +55,6 @@ pub inferred_from : (cert : Items) (E : Env) (c : Context) (t : Term) → IsRead
     Retraces (walk_infer cert E (test_of E) n c t (stand t0)) r t0 t1 → IfOk r (λ T. IsInferred E c t T)
 inferred_from cert E c t h f n (Ok T) t0 t1 p = infer_sound cert E h.env.declarations (test_of E) (decides E c h) n c t T (stand t0) (stand t1) h.context f p.answer
 inferred_from cert E c t h f n (Err x) t0 t1 p = tt
-
--- and what it becomes is well counted
-pub reached_counted : (E : Env) (c : Context) (t T W : Term) → IsReady E c → IsInferred E c t T → WeakSteps E (values c) T W → IsCounted E W
-reached_counted E c t T W h i s = steps_counted E h.env.declarations (values_counted E c h.context) s i.classifier
 
 -- what a number comes to is a sort
 

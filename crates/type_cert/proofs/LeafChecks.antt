@@ -1,5 +1,5 @@
 -- How leaves are checked by the types that are kept.
-use Rattle.std.proofs.Common.{◌≡◌, ◌∙◌, ◌+◌, ◌-◌, ◌<◌, ◌||◌, ℕ, suc, sym, subst as transport, refl, Ok, Some, None, true, false, slice_get, arith}
+use Rattle.std.proofs.Common.{◌≡◌, ◌+◌, ◌-◌, ◌<◌, ◌||◌, ℕ, sym, subst as transport, refl, Ok, Some, None, true, false, slice_get, arith}
 use Rattle.universe_levels.specs.declared.sort.Sort.{Sort}
 use Rattle.universe_levels.specs.Consistency.{IsSortOver}
 use Rattle.universe_levels.specs.Sorts.{super_sort}
@@ -26,9 +26,10 @@ use Rattle.type_cert.specs.declared.trail.Trail.{Trail}
 use Rattle.type_cert.specs.Retraces.{stand, WalkAnswers, Retraces}
 use Rattle.type_cert.specs.Unread.{RetracesUnread}
 use Rattle.type_cert.proofs.Retracing.{retraces_on, retraces_then, retraces_pass}
-use Rattle.type_cert.proofs.Scripting.{further, script_same, from_past, either_right}
+use Rattle.type_cert.proofs.Scripting.{further, script_same, from_past}
 use Rattle.type_cert.proofs.Inferring.{fits_same, fits_conv, inferred_from}
 use Rattle.type_cert.proofs.Sorting.{infer_leaf, infer_family, infer_sort, sort_passes}
+use Rattle.std.proofs.lemmas.Bool.{or_right}
 
 -- a type that is the one that is asked for fits, and its item is passed
 pub fits_there : (cert : Items) (E : Env) (inf : Walking) (cmp : Script) (c : Context) {S T : Term} {t0 t1 : Trail} → slice_get cert t0.at ≡ Some Same → S ≡ T → t1.meter ≡ t0.meter → t1.at ≡ t0.at + 1 →
@@ -79,7 +80,7 @@ module _ (cert : Items) (E : Env) (c : Context) (n : ℕ) (s w : Sort) (f : Fami
       Retraces (script cert E (test_of E) n (values c) false (SortT s) (SortT w) (stand twice)) (Ok tt) twice (further twice)
   below_there there below =
       let q = test_of E in
-      let e : (same (SortT s) (SortT w) || sorts_at q false (SortT s) (SortT w)) ≡ true = either_right _ _ below in
+      let e : (same (SortT s) (SortT w) || sorts_at q false (SortT s) (SortT w)) ≡ true = or_right _ _ below in
       script_same cert E q (values c) false (SortT s) (SortT w) n (n - 1) (script cert E q n) (omega (arith, z)) there (retraces_then _ _ _ (Ok tt) twice (further twice) e (from_past (retraces_pass tt (further twice))))
 
   pub family_checks : (t1 : Trail) → t1.meter.account ≡ ticked (ticked t0.meter.account) → t1.meter.nest ≡ t0.meter.nest → t1.at ≡ t0.at + 3 → slice_get cert t0.at ≡ Some Conv → slice_get cert (t0.at + 1) ≡ Some (Number 0) → slice_get cert (t0.at + 2) ≡ Some Same →

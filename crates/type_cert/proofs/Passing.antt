@@ -1,5 +1,5 @@
 -- How a script passes, from what passes in it.
-use Rattle.std.proofs.Common.{◌≡◌, ◌∙◌, sym, ap, refl, subst, ℕ, zero, suc, ◌+◌, ◌<◌, ◌≤◌, ◌==◌, ◌&&◌, Ok, Bool, true, false, if◌then◌else◌, List, [], ◌∷◌, ◌++◌, length, drop, take, get_or, Option, Some, None, slice_get, eq-eqb, arith}
+use Rattle.std.proofs.Common.{◌≡◌, ◌∙◌, sym, ap, refl, subst, ℕ, zero, suc, ◌+◌, ◌<◌, ◌≤◌, ◌==◌, ◌&&◌, Ok, Bool, true, if◌then◌else◌, List, [], ◌∷◌, ◌++◌, length, drop, take, get_or, Option, Some, None, slice_get, eq-eqb, arith}
 use Rattle.std.proofs.lemmas.List.{take_all, take_more}
 use Rattle.std.proofs.lemmas.Option.{get_or_from_slice_get}
 use Rattle.trees.specs.Tree.{terms_of}
@@ -28,6 +28,8 @@ use Rattle.type_cert.specs.declared.trail.Trail.{Trail}
 use Rattle.type_cert.specs.Passes.{paced, pace_of, one_on, Passes, AllPass, FirstPass, prefix_term, body_trees}
 use Rattle.type_cert.specs.Retraces.{stand, Retraces}
 use Rattle.type_cert.proofs.Retracing.{on_end}
+use Rattle.std.proofs.lemmas.Bool.{and_from}
+use Rattle.pc_rules.proofs.WeakNext.{both_true}
 
 -- lists of scripts
 
@@ -104,18 +106,6 @@ bodies_along go W f g d e k n m a b p q x y u v h =
 
 -- the parts of two heads
 
-and_left : (a b : Bool) → (a && b) ≡ true → a ≡ true
-and_left true b e = refl
-and_left false b e = absurd (cc)
-
-and_right : (a b : Bool) → (a && b) ≡ true → b ≡ true
-and_right true b e = e
-and_right false b e = absurd (cc)
-
-both_true : (a b : Bool) → a ≡ true → b ≡ true → (a && b) ≡ true
-both_true true b e f = f
-both_true false b e f = absurd (cc)
-
 labelled : (b : Bool) (o : Option (List WalkAct)) (p q : Pace) → b ≡ true → AllPass o p q → AllPass (if b then o else None) p q
 labelled b o p q e g = rw e g
 
@@ -127,7 +117,7 @@ module _ (go : Script) (V : Values) (equal : Bool) where
       let k = arms (Some []) p5 (nothing_left p5) in
       let s = goes_then (go V true x.scrut y.scrut) (term_parts go V (arms_of x.branches) (arms_of y.branches) (Some [])) p3 p4 p5 scrut k in
       let r = goes_then (go (under x.binders V) true x.ret y.ret) (with_part (go V true x.scrut y.scrut) (term_parts go V (arms_of x.branches) (arms_of y.branches) (Some []))) p2 p3 p5 ret s in
-      labelled (same_labels (CaseOf x.family x.binders) (CaseOf y.family y.binders)) _ p1 p5 (both_true (same_families x.family y.family) (x.binders == y.binders) f (eq-eqb x.binders y.binders b)) (params _ p5 r)
+      labelled (same_labels (CaseOf x.family x.binders) (CaseOf y.family y.binders)) _ p1 p5 (and_from (same_families x.family y.family) (x.binders == y.binders) f (eq-eqb x.binders y.binders b)) (params _ p5 r)
 
   pub fixpoints_pass : (ds es : List Def) (i j : ℕ) (p1 p2 p3 : Pace) → ((i == j) && same_numbers (rargs_of ds) (rargs_of es)) ≡ true →
       FirstPass (term_parts go V (types_of ds) (types_of es)) p1 p2 → FirstPass (term_parts go V (body_trees ds) (body_trees es)) p2 p3 →
@@ -150,7 +140,7 @@ pub fix_heads_pass : (go : Script) (V : Values) (equal : Bool) (a b : Term) (ds 
 fix_heads_pass go V equal a b ds es i j x p1 p2 p3 d e k types bodies =
     let one : alike a b ≡ alike (tree_of (nodes.Fix ds i)) (tree_of (nodes.Fix es j)) = λ n. alike (d n) (e n) in
     parts_along go V equal a b (tree_of (nodes.Fix ds i)) (tree_of (nodes.Fix es j)) p1 p3 d e
-    (fixpoints_pass go V equal ds es i j p1 p2 p3 (sym one ∙ and_right x (alike a b) (sym k)) types bodies)
+    (fixpoints_pass go V equal ds es i j p1 p2 p3 (sym one ∙ (both_true x (alike a b) (sym k)).1) types bodies)
 
 -- the head of a term with its first arguments
 

@@ -12,7 +12,7 @@ use Rattle.pc_terms.specs.declared.term.MakeFault.TheVariants.{TooDeep as DeepTe
 use Rattle.pc_rules.specs.Stops.{stop_of}
 use Rattle.pc_rules.specs.DirectedRun.{Run, make, passing, ticked}
 use Rattle.pc_rules.specs.Follows.{Follows, Answers, Halts, IsAfter}
-use Rattle.pc_rules.proofs.Following.{follows_made, follows_fault, follows_passing}
+use Rattle.pc_rules.proofs.Following.{follows_made, follows_fault, follows_passing, or_left, or_right}
 use Rattle.pc_rules.proofs.Meters.{after-refl, after-trans, after-tick}
 use Rattle.cert_rules.specs.Walk.{WalkState, Walk, WalkEnd, Passed, Barred, Unpaid, Crowded, pass, bar, crowded, tick, paid_walk, walk_ticking, end_on, deep_on, walk_on, end_at, by_rules}
 use Rattle.cert_rules.specs.WalkSteps.{Reduced}
@@ -20,14 +20,7 @@ use Rattle.type_cert.specs.declared.halt.WalkHalt.{WalkHalt}
 use Rattle.type_cert.specs.declared.halt.WalkHalt.TheVariants as walks
 use Rattle.type_cert.specs.declared.trail.Trail.{Trail}
 use Rattle.type_cert.specs.Retraces.{stand, WalkHalts, WalkAnswers, Retraces, halt_at, barred_at, passed_with, at_number}
-
-or_left : (a b : Bool) → IsTrue a → IsTrue (a || b)
-or_left true b h = refl
-or_left false b h = absurd (cc)
-
-or_right : (a b : Bool) → IsTrue b → IsTrue (a || b)
-or_right true b h = refl
-or_right false b h = h
+use Rattle.std.proofs.Math.Bool.{or_assoc}
 
 -- the end of a walk whose first part passes, and whether it has passed a limit
 pub on_end : {A B : Type 0} (d : Walk A) (k : A → WalkState → Walk B) (a : A) (s : WalkState) → d.end ≡ Passed a s → (walk_on d k).end ≡ (k a s).end
@@ -205,10 +198,6 @@ retraces_entered go r t0 t1 t2 t3 t4 h e n e2 n2 g p e4 n4 g4 =
     (record { answer = w'; after = after-trans t0.meter t1.meter t4.meter (after-tick t0.meter t1.meter e n) (nest_after t1 t2 t3 t4 n2 e2 p.after e4 n4) })
 
 -- one after the other is the same however they are grouped
-
-or_assoc : (a b c : Bool) → ((a || b) || c) ≡ (a || (b || c))
-or_assoc true b c = refl
-or_assoc false b c = refl
 
 or_false : (a : Bool) → (a || false) ≡ a
 or_false true = refl

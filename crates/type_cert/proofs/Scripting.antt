@@ -18,7 +18,7 @@ use Rattle.calculus_rules.specs.declared.entry.Entry.TheVariants.{Assumed, Defin
 use Rattle.pc_rules.specs.declared.meter.Meter.{Meter}
 use Rattle.rule_laws.proofs.KeepCounts.{steps_counted}
 use Rattle.cert_rules.specs.declared.item.CertItem.TheVariants.{Same, Left, Right}
-use Rattle.cert_rules.specs.Walk.{Items, WalkState, Walk, WalkEnd, WalkAct, Passed, Barred, Unpaid, Crowded, past, end_on, deep_on, walk_on, walk_all}
+use Rattle.cert_rules.specs.Walk.{Items, WalkState, Walk, WalkEnd, WalkAct, Passed, Barred, Unpaid, Crowded, past, deep_on, walk_on, walk_all}
 use Rattle.cert_rules.specs.WalkSteps.{walk_steps}
 use Rattle.cert_rules.specs.Scripts.{Script, parts_of, walk_parts, script_by, script}
 use Rattle.type_cert.specs.declared.halt.WalkHalt.{WalkHalt}
@@ -28,6 +28,7 @@ use Rattle.type_cert.specs.Retraces.{stand, WalkAnswers, Retraces}
 use Rattle.type_cert.specs.Comparable.{AreScriptable, leaf_answer}
 use Rattle.type_cert.specs.Going.{script_steps}
 use Rattle.type_cert.proofs.Retracing.{retraces_on, retraces_err, retraces_pass, retraces_bar, nest_after}
+use Rattle.cert_rules.proofs.TraceScripts.{one_end}
 
 pub item_there : {A : Type 0} (xs : List A) (i : ℕ) (x : A) → slice_get xs i ≡ Some x → i < length xs
 item_there [] i x e = absurd (none_some e)
@@ -108,12 +109,6 @@ module _ (cert : Items) (E : Env) (q : Test) (V : Values) (equal : Bool) (a b : 
   script_same (suc j) k go {r = r} {t0 = t0} {t1 = t1} z e p = subst (λ o. Retraces (script_by E q (script cert E q j) o V equal a b (stand t0)) r t0 t1) (sym e) p
 
 -- two parts
-
-one_end : (e : WalkEnd (Unit {0})) → end_on e (λ _ v. Passed tt v) ≡ e
-one_end (Passed a v) = refl
-one_end (Barred i u) = refl
-one_end Unpaid = refl
-one_end Crowded = refl
 
 one_deep : (d : Bool) (e : WalkEnd (Unit {0})) → (d || deep_on e (λ _ v. false)) ≡ d
 one_deep true e = refl
@@ -205,7 +200,7 @@ leaf_goes : (i : ℕ) (go : Script) (V : Values) (equal : Bool) (a b : Term) (x 
     Retraces (parts_here i go V equal (stand t) a b) (leaf_answer (same a b) i) t t
 leaf_goes i go V equal a b x t e f = rw (e, f) (leaf_end i x t)
 
--- without parts: neither products, lambdas, lets, applications, matches nor fixpoints
+-- without parts: or_from products, lambdas, lets, applications, matches nor fixpoints
 abbrev pub IsLeaf : Term → Type 0
 IsLeaf (Prod A B) = ⊥
 IsLeaf (Lambda A B) = ⊥
@@ -302,18 +297,6 @@ values_under c d A B e f = ap values e
 
 pub after_same : (m0 m1 : Meter) → m1.account ≡ m0.account → m1.nest ≡ m0.nest → IsAfter m0 m1
 after_same m0 m1 e n = let r = after-refl m0 in record { nest = n; left = rw e r.left; uses = λ i. rw e (r.uses i) }
-
-pub either_left : (x y : Bool) → x ≡ true → (x || y) ≡ true
-either_left true y e = refl
-either_left false y e = absurd (cc)
-
-pub either_right : (x y : Bool) → y ≡ true → (x || y) ≡ true
-either_right true y e = refl
-either_right false y e = e
-
-pub neither : (x y : Bool) → x ≡ false → y ≡ false → (x || y) ≡ false
-neither true y e f = absurd (cc)
-neither false y e f = f
 
 pub left_ready : {E : Env} {V : Values} {a b x : Term} → AreScriptable E V a b → WeakSteps E V a x → AreScriptable E V x b
 left_ready {E = E} r p = record { env = r.env; values = r.values; left = steps_counted E r.env.declarations r.values p r.left; right = r.right }

@@ -1,5 +1,5 @@
 -- Weak-head steps of a walk, one after the other.
-use Rattle.std.proofs.Common.{◌≡◌, ◌∙◌, sym, ap, refl, subst, ℕ, zero, suc, ◌+◌, ◌<◌, ◌≤◌, ◌-◌, ◌||◌, Ok, Err, IsTrue, Bool, true, false, Option, Some, None, arith}
+use Rattle.std.proofs.Common.{◌≡◌, ◌∙◌, sym, ap, refl, subst, ℕ, zero, suc, ◌+◌, ◌<◌, ◌≤◌, ◌-◌, Ok, Err, IsTrue, Option, Some, None, arith}
 use Rattle.pc_terms.specs.Syntax.{Term}
 use Rattle.pc_rules.specs.declared.meter.Account.{Account}
 use Rattle.pc_rules.specs.declared.stop.Stop.{Stop as StopKind}
@@ -22,21 +22,12 @@ use Rattle.type_cert.specs.Retraces.{stand, WalkHalts, Retraces}
 use Rattle.reduction.specs.Single.{PassesLimit}
 use Rattle.type_cert.specs.WalkLeads.{WalkLeads}
 use Rattle.type_cert.proofs.Retracing.{paid_more, paid_none}
-
-or_left : (a b : Bool) → IsTrue a → IsTrue (a || b)
-or_left true b h = refl
-or_left false b h = absurd (cc)
-
-or_right : (a b : Bool) → IsTrue b → IsTrue (a || b)
-or_right true b h = refl
-or_right false b h = h
+use Rattle.pc_rules.proofs.Following.{or_left, or_right}
+use Rattle.calculus_rules.proofs.Spines.{one_item}
 
 -- where a trail stands after a unit
 pub stand_ticked : (t0 t1 : Trail) → t1.meter.account ≡ ticked t0.meter.account → t1.at ≡ t0.at → stand t1 ≡ tick (stand t0)
 stand_ticked t0 t1 e f = λ i. record { account = e i; at = f i }
-
-some_is : {A : Type 0} {x y : A} → Some x ≡ Some y → x ≡ y
-some_is e = cc
 
 -- a reduction that takes all the units that it has
 module _ (E : Env) (V : Values) where
@@ -58,7 +49,7 @@ module _ (E : Env) (V : Values) (item : ℕ) where
   unfolding walk_steps
   after_walks zero t W s o q e l =
       let d : s.account.left ≡ s.account.left - 0 = omega arith in
-      let w : t ≡ W = some_is e in
+      let w : t ≡ W = one_item e in
       λ i. Passed (w i) (record { account = record { left = d i; uses = s.account.uses }; at = s.at })
   after_walks (suc n) t W s None q e l = absurd (none_some (sym (ap (λ o. if_some o (after E V n)) q) ∙ e))
   after_walks (suc n) t W s (Some x) q e l =

@@ -30,12 +30,12 @@ use Rattle.pc_rules.proofs.WeakNext.{none_some}
 use Rattle.calculus_rules.proofs.Spines.{spine_is}
 use Rattle.rule_laws.proofs.Runs.{bind_both, make_then, tested}
 use Rattle.rule_laws.proofs.Comparing.{names_long, compare_sound}
-use Rattle.rule_laws.proofs.KeepCounts.{assumed_under}
 use Rattle.rule_laws.proofs.FixRule.{types_sound, bodies_sound, enough, a_family}
 use Rattle.rule_laws.proofs.Inferring.{infer_sound}
 use Rattle.rule_laws.proofs.TypedLambdas.{typed_lambdas}
 use Rattle.type_infer.specs.Ready.{IsReady}
 use Rattle.type_infer.proofs.Beginning.{decides}
+use Rattle.calculus_rules.proofs.Telescopes.{under_none}
 
 -- a family applied to arguments has no weak-head step
 
@@ -103,7 +103,7 @@ module _ (E : Env) (inf : Typing) (cmp : Comparison) (c : Context) (n : ℕ) whe
 -- the definitions have no values
 pub definitions_values : (E : Env) (c : Context) (n : ℕ) (types : Terms) → values (definitions c n types) ≡ under (number types) (values c)
 definitions_values E c n Done = refl
-definitions_values E c n (Next b T ts) = definitions_values E (Assumed (shift n 0 T) ∷ c) (suc n) ts ∙ assumed_under E (number ts) (values c)
+definitions_values E c n (Next b T ts) = definitions_values E (Assumed (shift n 0 T) ∷ c) (suc n) ts ∙ under_none (number ts) (values c)
 
 -- there is a type for each definition
 pub type_of_each : (ts : Terms) (i : ℕ) → AreAll 0 (binders_of ts) → i < length (binders_of ts) → (T : Term) × (term_at ts i ≡ Some (0, T))

@@ -1,6 +1,6 @@
 -- A step of a part keeps the types of the whole: products, lambdas, lets and applications.
 use Rattle.std.specs.Prelude.{ℕ, zero, suc, ◌≡◌, List, [], ◌∷◌, Option, Some, None, length}
-use Rattle.std.proofs.Common.{refl, sym, ap, ◌∙◌, subst}
+use Rattle.std.proofs.Common.{sym, ap, ◌∙◌, subst}
 use Rattle.pc_terms.specs.Syntax.{Slot, Children, Term, Terms, Next, Prod, Lambda, LetIn, App}
 use Rattle.calculus_rules.specs.declared.entry.Entry.TheVariants.{Assumed, Defined}
 use Rattle.calculus_rules.specs.Environment.{Env}
@@ -20,6 +20,7 @@ use Rattle.type_laws.proofs.ContextConversion.{ContextBelow, context_same, types
 use Rattle.type_laws.proofs.ContextConversion as below
 use Rattle.type_laws.proofs.Spines.{put_equal}
 use Rattle.type_laws.proofs.Validity.{types_have_sorts}
+use Rattle.calculus_rules.proofs.Telescopes.{under_none}
 
 -- each type of the first term is one of the second
 abbrev pub Kept : Env → Context → Term → Term → Type 0
@@ -38,11 +39,6 @@ covers_all (o ∷ V) = covers_same (covers_all V)
 pub covers_under : {W V : Values} → Covers W V → (n : ℕ) → Covers (under n W) (under n V)
 covers_under w zero = w
 covers_under w (suc n) = covers_same (covers_under w n)
-
--- one more assumed entry, outside or inside
-pub under_none : (n : ℕ) (V : Values) → under n (None ∷ V) ≡ None ∷ under n V
-under_none zero V = refl
-under_none (suc n) V = ap (◌∷◌ None) (under_none n V)
 
 -- also with a telescope's entries before them
 pub covers_extend : (As : List Term) (c : Context) {V : Values} → Covers (values c) V → Covers (values (extend c As)) (under (length As) V)

@@ -2,9 +2,9 @@
 use Rattle.std.proofs.Common.{◌≡◌, ℕ, ◌+◌, List, [], ◌∷◌, ◌++◌, map, length, refl, sym, ap, ◌∙◌, arith}
 use mathlib.Core.Path.{fun_ext}
 use Rattle.trees.proofs.Fusion.{substitute-rename, substitute-substitute}
-use Rattle.trees.proofs.Cutoffs.{Order, below, past, order, overs_below, overs_past, put_all-past}
-use Rattle.trees.proofs.Put.{each_append, put_all_agree, agree_none, substitute_same, substitute-put_each}
-use Rattle.trees.proofs.Exchange.{put_all-shifted_by}
+use Rattle.trees.proofs.Cutoffs.{put_all-past}
+use Rattle.trees.proofs.Put.{each_append, substitute_same, substitute-put_each}
+use Rattle.trees.proofs.Exchange.{put_over}
 use Rattle.pc_terms.specs.Syntax.{Term, Rel, Ind, Construct, first, overs, substitute, put_all, shift, apply, variables}
 use Rattle.pc_terms.specs.declared.leaf.FamilyId.{FamilyId}
 use Rattle.calculus_rules.specs.declared.declaration.Constructor.{Constructor}
@@ -32,19 +32,6 @@ pub lifted_put : (xs : List Term) (s : ℕ → Term) (ts : List Term) → map (s
 lifted_put xs s [] = refl
 lifted_put xs s (t ∷ ts) = λ i.
     (substitute-rename t (λ j. length xs + j) (put_all xs s) ∙ ap (λ q. substitute q t) (fun_ext (put_all-past xs s))) i ∷ lifted_put xs s ts i
-
--- a substitution under the variables, and then the terms
-put_over_each : (xs : List Term) (s : ℕ → Term) (i : ℕ) → substitute (put_all xs Rel) (overs (length xs) s i) ≡ put_all xs s i
-put_over_each xs s i = by_order (order (length xs) i)
-  where
-    by_order : Order (length xs) i → substitute (put_all xs Rel) (overs (length xs) s i) ≡ put_all xs s i
-    by_order (below l) = ap (substitute (put_all xs Rel)) (overs_below (length xs) s i l) ∙ put_all_agree xs Rel s 0 (agree_none Rel s) i (omega arith)
-    by_order (past j e) =
-        ap (λ i. substitute (put_all xs Rel) (overs (length xs) s i)) e ∙ ap (substitute (put_all xs Rel)) (overs_past (length xs) s j)
-        ∙ put_all-shifted_by xs (s j) ∙ sym (put_all-past xs s j) ∙ ap (put_all xs s) (sym e)
-
-pub put_over : (xs : List Term) (s : ℕ → Term) (t : Term) → substitute (put_all xs Rel) (substitute (overs (length xs) s) t) ≡ substitute (put_all xs s) t
-put_over xs s t = substitute-substitute t (overs (length xs) s) (put_all xs Rel) ∙ ap (λ q. substitute q t) (fun_ext (put_over_each xs s))
 
 pub each_put_over : (xs : List Term) (s : ℕ → Term) (ts : List Term) →
     map (substitute (put_all xs Rel)) (map (substitute (overs (length xs) s)) ts) ≡ map (substitute (put_all xs s)) ts

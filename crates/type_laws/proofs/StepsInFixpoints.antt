@@ -18,7 +18,8 @@ use Rattle.type_laws.proofs.ContextConversion.{ContextBelow, context_same, types
 use Rattle.type_laws.proofs.ContextConversion as below
 use Rattle.type_laws.proofs.Validity.{types_have_sorts}
 use Rattle.type_laws.proofs.Over.{Over, over_none, over_one, over_sorted, over_equal}
-use Rattle.type_laws.proofs.Kept.{Kept, KeptTerms, kept_first, kept_rest, Covers, covers_same, under_none, step_covered, equal_covered, retyped, equal_below}
+use Rattle.type_laws.proofs.Kept.{Kept, KeptTerms, kept_first, kept_rest, Covers, covers_same, step_covered, equal_covered, retyped, equal_below}
+use Rattle.calculus_rules.proofs.Telescopes.{under_none}
 
 over_definitions : {c : Context} (ts : Terms) {d : Context} {n : ℕ} → Over c n d → (m : ℕ) → number ts + n ≡ m → Over c m (definitions d n ts)
 over_definitions {c} Done {d} o m e = subst (λ n. Over c n d) (let z : 0 + _ ≡ m = e in omega arith) o

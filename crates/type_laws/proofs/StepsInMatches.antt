@@ -31,7 +31,8 @@ use Rattle.type_laws.proofs.EnvironmentSorts.{kept_is_known, parameters_sorted}
 use Rattle.type_laws.proofs.Spines.{EqualAt, equal_over, equal_under, equal_put, each_put, put_equal, spine_types}
 use Rattle.type_laws.proofs.Validity.{known_below, scrutinee_fits, types_have_sorts}
 use Rattle.type_laws.proofs.MatchTelescopes.{shift_none, family_at_parameters, predicate_sorted, branch_sorts, branch_type_sorted, branch_type_equal}
-use Rattle.type_laws.proofs.Kept.{Kept, Keeps, KeptTerms, kept_first, kept_rest, Covers, covers_extend, under_none, equal_covered, retyped, equal_below, app_function, app_argument}
+use Rattle.type_laws.proofs.Kept.{Kept, Keeps, KeptTerms, kept_first, kept_rest, Covers, covers_extend, equal_covered, retyped, equal_below, app_function, app_argument}
+use Rattle.calculus_rules.proofs.Telescopes.{under_none}
 
 -- a match, put together again
 case_again : {E : Env} {c : Context} {f : FamilyId} {F : FamilyDecl} {xs bs : Terms} {n : ℕ} {ret t : Term} {s : Sort} (ps is : List Term) → xs ≡ terms_of ps → KeepsFamily E f F →

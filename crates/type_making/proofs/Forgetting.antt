@@ -1,32 +1,29 @@
 -- But for the items, the types and the definitions of a fixpoint are made as the directed rules go through them; so its guard may be asked.
 use Rattle.std.proofs.Common.{subst, ℕ, suc, Ok, List, [], ◌∷◌, length}
-use Rattle.pc_terms.specs.Formed.{binders_of, EachTerm, AreAll, HasForm, IsFormed}
+use Rattle.pc_terms.specs.Formed.{EachTerm, HasForm, IsFormed}
 use Rattle.pc_terms.specs.Syntax.{Term, Terms, Done, Next, Fix, shift, head}
-use Rattle.calculus_rules.specs.declared.entry.Entry.TheVariants.{Assumed}
 use Rattle.calculus_rules.specs.Environment.{Env}
 use Rattle.calculus_rules.specs.Context.{Context, values}
 use Rattle.calculus_rules.specs.Instances.{definitions}
 use Rattle.calculus_rules.specs.Listed.{list_of}
 use Rattle.pc_rules.specs.declared.broken.Broken.TheVariants.{RecArgNotInductive}
-use Rattle.pc_rules.specs.DirectedRun.{bind}
 use Rattle.pc_rules.specs.DirectedComparison.{Comparison, compare}
-use Rattle.pc_rules.specs.DirectedTyping.{Typing, infer, sort_of, types_rule, recursive_domain, enough_abstractions, is_a_family, family_found, definition_rule, definitions_rule}
+use Rattle.pc_rules.specs.DirectedTyping.{Typing, infer, recursive_domain, enough_abstractions, is_a_family, family_found, definition_rule, definitions_rule}
 use Rattle.pc_rules.specs.Entailment.{test_of}
 use Rattle.pc_rules.specs.WellCounted.{IsCountedNode, IsCounted, HasCountedDeclarations, IsCountedContext}
-use Rattle.rule_laws.proofs.Counted.{shifted_counted, before_shift}
+use Rattle.rule_laws.proofs.Counted.{shifted_counted}
 use Rattle.rule_laws.proofs.SimpleRules.{formed}
-use Rattle.cert_rules.specs.Walk.{Items, walk_on}
+use Rattle.cert_rules.specs.Walk.{Items}
 use Rattle.cert_rules.specs.Scripts.{Script, script}
-use Rattle.cert_rules.specs.WalkTyping.{Walking, walk_infer, walk_sort_of, walk_types, walk_family_found, walk_definition, walk_definitions}
-use Rattle.cert_rules.specs.Writing.{wrote, silent, write_on}
-use Rattle.cert_rules.specs.MakingTyping.{MakeTyping, MakeComparison, make_compare, make_infer, make_sort_of, make_types, make_definition, make_definitions}
-use Rattle.cert_rules.proofs.SoundFix.{shifted_formed}
+use Rattle.cert_rules.specs.WalkTyping.{Walking, walk_infer, walk_family_found, walk_definition, walk_definitions}
+use Rattle.cert_rules.specs.Writing.{wrote, silent}
+use Rattle.cert_rules.specs.MakingTyping.{MakeTyping, MakeComparison, make_compare, make_infer, make_types, make_definition, make_definitions}
 use Rattle.cert_rules.proofs.ExactRules.{exact_enough}
-use Rattle.cert_rules.proofs.Traces.{Traces, trace_on, trace_less, trace_rules, trace_done}
+use Rattle.cert_rules.proofs.Traces.{Traces, trace_on, trace_rules, trace_done}
 use Rattle.cert_rules.proofs.ReachedSteps.{trace_reduced}
 use Rattle.cert_rules.proofs.TraceComparison.{compare_trace}
-use Rattle.cert_rules.proofs.TraceSorts.{trace_make, trace_tested, Inferred, Compared, sort_trace, check_trace}
-use Rattle.cert_rules.proofs.TraceRules.{infer_trace}
+use Rattle.cert_rules.proofs.TraceSorts.{trace_make, trace_tested, Inferred, Compared, check_trace}
+use Rattle.cert_rules.proofs.TraceRules.{infer_trace, types_trace}
 use Rattle.type_infer.specs.Ready.{IsReady}
 use Rattle.type_infer.proofs.Beginning.{decides}
 use Rattle.type_infer.proofs.GuardConditions.{guardable, IsGuardable}
@@ -35,21 +32,6 @@ use Rattle.script_making.specs.Makes.{Makes}
 use Rattle.script_making.proofs.Making.{made_follows}
 
 module _ (cert : Items) (E : Env) (w : HasCountedDeclarations E) (infd : Typing) (infg : MakeTyping) (infh : Walking) (ti : Inferred cert E w infd infg infh) where
-  types_traced : (c : Context) (n : ℕ) (types : Terms) → IsCountedContext E c → AreAll 0 (binders_of types) → EachTerm HasForm types →
-      Traces cert (λ _. EachTerm (IsCountedNode E) types × IsCountedContext E (definitions c n types)) (λ u. types_rule E infd c n (list_of types) u)
-      (λ u. make_types E infg c n (list_of types) u) (λ s. walk_types cert E infh c n (list_of types) s)
-  unfolding types_rule make_types walk_types
-  types_traced c n Done k a f = trace_done cert tt (tt, k)
-  types_traced c n (Next m T ts) k a f =
-      let S : Term = shift n 0 T in
-      trace_on cert _ _ _ _ _ _ (trace_make cert S)
-      (λ X e. subst (λ X. Traces cert (λ _. EachTerm (IsCountedNode E) (Next m T ts) × IsCountedContext E (definitions c n (Next m T ts)))
-      (λ v. bind (sort_of E infd c X v) (λ _ w. types_rule E infd (Assumed X ∷ c) (suc n) (list_of ts) w))
-      (λ v. write_on (make_sort_of E infg c X v) (λ _ w. make_types E infg (Assumed X ∷ c) (suc n) (list_of ts) w))
-      (λ v. walk_on (walk_sort_of cert E infh c X v) (λ _ w. walk_types cert E infh (Assumed X ∷ c) (suc n) (list_of ts) w))) e
-      (trace_on cert _ _ _ _ _ _ (sort_trace cert E w infd infg infh ti c S k (shifted_formed n T f.0))
-      (λ x kS. trace_less cert (λ o r. ((before_shift E n 0 T kS, r.0), r.1)) (types_traced (Assumed S ∷ c) (suc n) ts (kS, k) a.1 f.1))))
-
   module _ (cmp : Comparison) (mk : MakeComparison) (sc : Script) (tc : Compared cert E w cmp mk sc) where
     definition_traced : (c : Context) (n d rarg : ℕ) (T body : Term) → IsCountedContext E c → IsCounted E T → IsFormed body →
         Traces cert (λ _. Unit {0}) (λ u. definition_rule E infd cmp c n d rarg T body u) (λ u. make_definition E infg mk c n d rarg T body u)
@@ -86,7 +68,7 @@ made_guardable E c i rargs types bodies n t0 t1 t2 h ff p q =
     let infh : Walking = walk_infer [] E (test_of E) 0 in
     let ti : Inferred [] E w infd infg infh = infer_trace [] E w (test_of E) (decides E c h) n 0 in
     let tc : Compared [] E w (compare E (test_of E) n) (make_compare E (test_of E) n) (script [] E (test_of E) 0) = λ c equal a b vs ka kb. compare_trace [] E (test_of E) w n c equal a b vs ka kb 0 in
-    let ts = types_traced [] E w infd infg infh ti c 0 types h.context ff.0.0.1 ff.1.0 in
+    let ts = types_trace [] E w infd infg infh ti c 0 types h.context ff.0.0.1 ff.1.0 in
     let k = (ts.leads t0.meter.account (wrote p.answer.0 tt) t1.meter.account p.answer.1).0 in
     let ds = definitions_traced [] E w infd infg infh ti (compare E (test_of E) n) (make_compare E (test_of E) n) (script [] E (test_of E) 0) tc (definitions c 0 types) (length rargs) 0 rargs types bodies k.1 k.0 ff.1.1.0 in
     guardable E c i rargs types bodies n t0.meter t1.meter t2.meter h ff

@@ -9,7 +9,6 @@ use Rattle.closure_lift.specs.LiftedView.{functions_of}
 use Rattle.closure_lift.specs.declared.program.Function.{Function}
 use Rattle.closure_lift.specs.declared.program.Lifted.{Lifted}
 use Rattle.closure_lift.specs.declared.program.LiftedConstant.{LiftedConstant}
-use Rattle.closure_lift.proofs.Noting.{next_of}
 use Rattle.wasm_core.specs.ModuleCondition.{All}
 use Rattle.wasm_core.specs.declared.instrs.Body.{Body}
 use Rattle.wasm_core.specs.declared.instrs.Instr.{Instr}
@@ -19,6 +18,7 @@ use Rattle.wasm_emit.specs.EmittedBodies.{FewInFunction, FewInBlock, FewLocals, 
 use Rattle.wasm_emit.specs.Pushed.{function_in, MemoryOrLocals}
 use Rattle.wasm_emit.specs.declared.fault.EmitFault.{EmitFault}
 use Rattle.wasm_emit.proofs.Pushing.{top_renumbered, constant_next}
+use Rattle.closure_lift.proofs.Noting.{next_is}
 
 -- the functions and constants of parts of a program in memory
 abbrev pub functions_in : Lifted → List Function → List Fn
@@ -43,7 +43,7 @@ one_more v w a b rest out more e inv =
 -- the next function of a program
 module _ (Q : Lifted) (items : List Function) (i : ℕ) (f : Function) (lt : i < length items) (is : f ≡ get_or items i f) where
   pub next_function : functions_in Q (drop i items) ≡ function_in Q f ∷ functions_in Q (drop (i + 1) items)
-  next_function = ap (λ (fs : List Function). functions_in Q fs) (next_of items i f lt is)
+  next_function = ap (λ (fs : List Function). functions_in Q fs) (next_is items i f lt is)
 
   few_renumbered : top 2 (renumber (place_in Q.constants) f.body) - 2 ≡ top 2 f.body - 2
   few_renumbered = ap (λ (k : ℕ). k - 2) (top_renumbered (place_in Q.constants) 2 f.body)

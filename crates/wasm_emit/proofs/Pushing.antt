@@ -11,12 +11,12 @@ use Rattle.closure_lift.specs.declared.program.LiftedBranch.{LiftedBranch}
 use Rattle.closure_lift.specs.declared.program.LiftedConstant.{LiftedConstant}
 use Rattle.closure_lift.specs.declared.program.LiftedOp.{LiftedOp}
 use Rattle.closure_lift.specs.declared.program.LiftedOp.TheVariants as lifted
-use Rattle.closure_lift.proofs.Noting.{next_of}
 use Rattle.wasm_core.specs.declared.instrs.Instr.{Instr}
 use Rattle.wasm_core.specs.declared.instrs.Instr.TheVariants.{End}
 use Rattle.wasm_emit.specs.EmittedLocals.{top, top_op, top_branches}
 use Rattle.wasm_emit.specs.Pushed.{Pushed, ends, bound_locals}
 use Rattle.wasm_emit.specs.declared.fault.EmitFault.{EmitFault}
+use Rattle.closure_lift.proofs.Noting.{next_is}
 
 pub ends_step : (n k : ℕ) (rest : List Instr) → k < n → ends (n - k) rest ≡ End ∷ ends (n - (k + 1)) rest
 ends_step n k rest h = let e : n - k ≡ suc (n - (k + 1)) = omega arith in ap (λ (j : ℕ). ends j rest) e
@@ -65,7 +65,7 @@ module _ (slice cs : List LiftedConstant) (k : ℕ) (c : LiftedConstant) (same :
   pub constant_next : drop k cs ≡ c ∷ drop (k + 1) cs
   constant_next =
       let size : length cs ≡ length slice = sym (ap length same) ∙ length-reverse slice in
-      next_of cs k c (omega arith) (is ∙ sym (get_or-reverse slice k c lt) ∙ ap (λ (xs : List LiftedConstant). get_or xs k c) same)
+      next_is cs k c (omega arith) (is ∙ sym (get_or-reverse slice k c lt) ∙ ap (λ (xs : List LiftedConstant). get_or xs k c) same)
 
 -- ends one after another
 pub ends_sum : (n k : ℕ) (rest : List Instr) → ends n (ends k rest) ≡ ends (k + n) rest

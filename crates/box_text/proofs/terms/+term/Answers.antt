@@ -1,8 +1,8 @@
 use Rattle.std.proofs.Common.{rules, arith, ◌<◌, ◌≤◌, length, subst}
 use Rattle.trees.specs.Measures.{depth, depth_trees}
 use Rattle.box_terms.specs.BoxLists.{arms_of, bodies_of}
-use Rattle.box_text.proofs.Lists.{arm_is_less, body_is_less}
 use Rattle.box_text.proofs.terms.+term.Goals as goal
+use Rattle.box_terms.proofs.Items.{arm_is_less, body_is_less}
 
 pub put_branches-put_branch-requires : goal.put_branches-put_branch-requires
 put_branches-put_branch-requires t c =

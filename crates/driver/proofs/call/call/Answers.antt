@@ -5,10 +5,11 @@ use Rattle.module_run.specs.CallEnds.{CallEnds}
 use Rattle.module_run.specs.CallFacts.{CallRunIsTold}
 use Rattle.driver.specs.CallEnds.{CallSays}
 use Rattle.driver.specs.CalledMain.{IsCallCompiled}
-use Rattle.driver.proofs.Answering.{exit_says, ok_anyway}
+use Rattle.driver.proofs.Answering.{exit_says}
 use Rattle.driver.proofs.CallSaying.{answer_named, call_line_says, call_refused, is_compiled}
 use Rattle.driver.proofs.JobTold.{of_call}
 use Rattle.driver.proofs.call.call.Goals as goal
+use Rattle.module_run.proofs.CallEnding.{told_anyway}
 
 pub returns-in_err-main-clause-says : goal.returns-in_err-main-clause-says
 returns-in_err-main-clause-says g c = exit_says (λ v. v.items) Call c.args.request c.from_residual.result c.in_err-main.field-0.0 c.args.bytes.now c.from_residual.ensures.1 c.in_err-main.ensures.says
@@ -44,4 +45,4 @@ returns-clause-told g c =
     let m = c.in_ok-main.main in
     let shown = g.R.Report.shown in
     let told = subst (λ (ds : List DataNodes). CallRunIsTold shown m.module q.pages q.steps ds c.called_main.new.reports.items c.called.new.reports.items) c.as_slice.ensures.value c.in_ok-answer.ensures.told in
-    ok_anyway c.line_of.result (of_call shown q c.args.bytes.now c.requires.range m _ _ _ c.in_ok-main.ensures.says c.in_ok-main.ensures.told told)
+    told_anyway c.line_of.result (of_call shown q c.args.bytes.now c.requires.range m _ _ _ c.in_ok-main.ensures.says c.in_ok-main.ensures.told told)

@@ -1,9 +1,10 @@
 use Rattle.command_line.specs.declared.job.Job.TheVariants.{Cert}
-use Rattle.driver.proofs.Answering.{cause_of, checked_says, exit_says, ok_anyway}
+use Rattle.driver.proofs.Answering.{cause_of, checked_says, exit_says}
 use Rattle.driver.proofs.CertSaying.{certified_says}
 use Rattle.driver.proofs.JobTold.{of_check}
 use Rattle.driver.proofs.TextCauses.{within_limits}
 use Rattle.driver.proofs.cert.cert.Goals as goal
+use Rattle.module_run.proofs.CallEnding.{told_anyway}
 
 pub returns-in_err-certificate-clause-says : goal.returns-in_err-certificate-clause-says
 returns-in_err-certificate-clause-says g c =
@@ -26,4 +27,4 @@ pub returns-clause-told : goal.returns-clause-told
 returns-clause-told g c =
     let bytes = c.args.bytes.now in
     let e = c.in_ok-environment.environment in
-    ok_anyway c.text_of.result (of_check g.R.Report.shown c.args.request bytes e _ _ (within_limits bytes e c.in_ok-environment.ensures.exact) c.in_ok-certificate.ensures.told)
+    told_anyway c.text_of.result (of_check g.R.Report.shown c.args.request bytes e _ _ (within_limits bytes e c.in_ok-environment.ensures.exact) c.in_ok-certificate.ensures.told)

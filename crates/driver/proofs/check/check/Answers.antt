@@ -1,9 +1,10 @@
 use Rattle.std.specs.Prelude.{codes}
 use Rattle.command_line.specs.declared.job.Job.TheVariants.{Check}
-use Rattle.driver.proofs.Answering.{cause_of, checked_says, exit_says, ok_anyway, says}
+use Rattle.driver.proofs.Answering.{cause_of, checked_says, exit_says, says}
 use Rattle.driver.proofs.JobTold.{of_check}
 use Rattle.driver.proofs.TextCauses.{within_limits}
 use Rattle.driver.proofs.check.check.Goals as goal
+use Rattle.module_run.proofs.CallEnding.{told_anyway}
 
 pub returns-in_err-accept-clause-says : goal.returns-in_err-accept-clause-says
 returns-in_err-accept-clause-says g c =
@@ -30,4 +31,4 @@ pub returns-clause-told : goal.returns-clause-told
 returns-clause-told g c =
     let e = c.in_ok-environment.environment in
     let bytes = c.args.bytes.now in
-    ok_anyway c.accepted_text.result (of_check g.R.Report.shown c.args.request bytes e _ _ (within_limits bytes e c.in_ok-environment.ensures.exact) c.in_ok-accept.ensures.told)
+    told_anyway c.accepted_text.result (of_check g.R.Report.shown c.args.request bytes e _ _ (within_limits bytes e c.in_ok-environment.ensures.exact) c.in_ok-accept.ensures.told)

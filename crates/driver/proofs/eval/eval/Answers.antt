@@ -1,10 +1,11 @@
 use Rattle.first_order.specs.Searching.{members}
 use Rattle.command_line.specs.declared.job.Job.TheVariants.{Eval}
-use Rattle.driver.proofs.Answering.{cause_of, checked_says, exit_says, ok_anyway}
+use Rattle.driver.proofs.Answering.{cause_of, checked_says, exit_says}
 use Rattle.driver.proofs.SourceSaying.{of_shapes, of_value, of_data, names_there, source_says, evaluated, line_says}
 use Rattle.driver.proofs.JobTold.{of_account}
 use Rattle.driver.proofs.TextCauses.{within_limits}
 use Rattle.driver.proofs.eval.eval.Goals as goal
+use Rattle.module_run.proofs.CallEnding.{told_anyway}
 
 pub returns-in_err-accepted-clause-says : goal.returns-in_err-accepted-clause-says
 returns-in_err-accepted-clause-says g c =
@@ -82,4 +83,4 @@ returns-clause-told g c =
     let bytes = c.args.bytes.now in
     let a = c.in_ok-accepted.accepted in
     let known = c.in_ok-accepted.ensures in
-    ok_anyway c.line_of.result (of_account g.R.Report.shown c.args.request bytes e a.env a.main_type c.accept_within.new.meter.account _ _ (within_limits bytes e c.in_ok-environment.ensures.exact) known.says.0 known.told)
+    told_anyway c.line_of.result (of_account g.R.Report.shown c.args.request bytes e a.env a.main_type c.accept_within.new.meter.account _ _ (within_limits bytes e c.in_ok-environment.ensures.exact) known.says.0 known.told)

@@ -3,12 +3,13 @@ use Rattle.command_line.specs.declared.job.Job.TheVariants.{Export}
 use Rattle.driver.specs.ExecEnds.{ErasureSays}
 use Rattle.driver.specs.Exported.{by_signature, by_erasure}
 use Rattle.driver.specs.ExportSays.{CallModuleSays}
-use Rattle.driver.proofs.Answering.{cause_of, checked_says, exit_at, ok_anyway}
+use Rattle.driver.proofs.Answering.{cause_of, checked_says, exit_at}
 use Rattle.driver.proofs.MadeSaying.{accepting}
 use Rattle.driver.proofs.ExportSaying.{signing, call_erasing, export_says, passes_say, takes_some}
 use Rattle.driver.proofs.JobTold.{of_account}
 use Rattle.driver.proofs.TextCauses.{within_limits}
 use Rattle.driver.proofs.export.call_module.Goals as goal
+use Rattle.module_run.proofs.CallEnding.{told_anyway}
 
 pub returns-in_err-accepted-clause-says : goal.returns-in_err-accepted-clause-says
 returns-in_err-accepted-clause-says g c =
@@ -86,4 +87,4 @@ returns-clause-told g c =
     let bytes = c.args.bytes.now in
     let a = c.in_ok-accepted.accepted in
     let known = c.in_ok-accepted.ensures in
-    ok_anyway c.call_compiled.result (of_account g.R.Report.shown c.args.request bytes e a.env a.main_type c.accept_within.new.meter.account _ _ (within_limits bytes e c.in_ok-environment.ensures.exact) known.says.0 known.told)
+    told_anyway c.call_compiled.result (of_account g.R.Report.shown c.args.request bytes e a.env a.main_type c.accept_within.new.meter.account _ _ (within_limits bytes e c.in_ok-environment.ensures.exact) known.says.0 known.told)

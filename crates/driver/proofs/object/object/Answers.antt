@@ -1,9 +1,9 @@
-use Rattle.driver.proofs.Answering.{ok_anyway}
 use Rattle.driver.proofs.MadeSaying.{bytes_say}
 use Rattle.driver.proofs.object.object.Goals as goal
+use Rattle.module_run.proofs.CallEnding.{told_anyway}
 
 pub returns-clause-says : goal.returns-clause-says
 returns-clause-says g c = bytes_say c.args.request c.requires.range c.args.bytes.now c.in_ok-main.main c.in_ok-main.ensures.says (λ v. v.items) c.written.result c.written.ensures.says
 
 pub returns-clause-told : goal.returns-clause-told
-returns-clause-told g c = ok_anyway c.written.result c.in_ok-main.ensures.told
+returns-clause-told g c = told_anyway c.written.result c.in_ok-main.ensures.told

@@ -1,14 +1,15 @@
 use Rattle.std.proofs.Common.{◌≡◌, ◌∷◌, [], ◌++◌, length, refl, arith}
 use Rattle.first_order.specs.Searching.{found_at}
 use Rattle.first_order.proofs.Searches.{passes_memory}
-use Rattle.first_order.proofs.Working.{no_unit_left, behind_spent, behind_done}
+use Rattle.first_order.proofs.Working.{behind_spent, behind_done}
 use Rattle.first_order.proofs.searching.put_behind.Goals as goal
+use Rattle.pc_rules.proofs.Meters.{no_more}
 
 pub returns-then-not-tick-clause-follows : goal.returns-then-not-tick-clause-follows
 returns-then-not-tick-clause-follows c =
     let room : length c.args.types.now.items ≡ 1024 → ⊥ = λ e. omega (arith, e) in
     behind_spent c.args.types.now.items c.args.ty c.args.m.now c.tick.new.self room c.tick.ensures.account c.tick.ensures.nest
-    (no_unit_left c.tick.result c.args.m.now.account.left c.tick.ensures.was c.if-not-tick.true)
+    (no_more c.tick.result c.args.m.now.account.left c.tick.ensures.was c.if-not-tick.true)
 
 pub returns-in_err-put-clause-follows : goal.returns-in_err-put-clause-follows
 returns-in_err-put-clause-follows c =

@@ -9,9 +9,10 @@ use Rattle.pc_rules.proofs.Meters.{after-trans}
 use Rattle.inductive_check.specs.Given.{family_of}
 use Rattle.pc_rules.proofs.Following.{follows_passed}
 use Rattle.pc_rules.proofs.Leaving.{leaving}
-use Rattle.inductive_check.proofs.Leading.{leads_along, leads_done, follows_first, follows_end}
+use Rattle.inductive_check.proofs.Leading.{leads_done, follows_first, follows_end}
 use Rattle.inductive_check.proofs.Listed.{heads_at, heads_over, heads_next, families_more}
 use Rattle.inductive_check.proofs.heads.check_heads.Goals as goal
+use Rattle.pc_rules.proofs.Leading.{leads_along}
 
 pub returns-in_err-check_head-clause-follows : goal.returns-in_err-check_head-clause-follows
 returns-in_err-check_head-clause-follows g c = λ B ep.

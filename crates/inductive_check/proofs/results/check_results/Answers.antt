@@ -6,11 +6,12 @@ use Rattle.pc_rules.specs.Entailment.{test_of}
 use Rattle.pc_rules.proofs.FairReduction.{comparing_fair}
 use Rattle.pc_rules.proofs.FairTyping.{inferring_fair, check_all_leaves}
 use Rattle.pc_rules.proofs.Meters.{after-trans}
-use Rattle.inductive_check.proofs.Leading.{follows_end, follows_wanting, leads_along}
+use Rattle.inductive_check.proofs.Leading.{follows_end, follows_wanting}
 use Rattle.inductive_check.proofs.Checking.{results_over, results_next, results_stop, results_fault, first_put, counted_more}
 use Rattle.std.proofs.lemmas.Result.{err_from_is_err_and}
 use Rattle.inductive_check.proofs.results.check_results.Goals as goal
 use Rattle.pc_rules.proofs.ListSteps.{take_next}
+use Rattle.pc_rules.proofs.Leading.{leads_along}
 
 pub returns-in_err-ty-clause-follows : goal.returns-in_err-ty-clause-follows
 returns-in_err-ty-clause-follows g c =

@@ -7,11 +7,12 @@ use Rattle.pc_rules.specs.WellCounted.{IsCountedContext}
 use Rattle.pc_rules.proofs.Meters.{after-trans}
 use Rattle.pc_rules.proofs.Following.{follows_passed}
 use Rattle.pc_rules.proofs.Leaving.{leaving}
-use Rattle.inductive_check.proofs.Leading.{leads_along, leads_done, follows_first, follows_wanting, follows_end}
+use Rattle.inductive_check.proofs.Leading.{leads_done, follows_first, follows_wanting, follows_end}
 use Rattle.inductive_check.proofs.Telescopes.{entries_at, entries_over, extend_next, entered_counted, assumed_counted}
 use Rattle.std.proofs.lemmas.Result.{err_from_is_err_and}
 use Rattle.inductive_check.proofs.telescope.enter.Goals as goal
 use Rattle.pc_rules.proofs.ListSteps.{none_left}
+use Rattle.pc_rules.proofs.Leading.{leads_along}
 
 pub returns-in_err-_sort-clause-follows : goal.returns-in_err-_sort-clause-follows
 returns-in_err-_sort-clause-follows g c =

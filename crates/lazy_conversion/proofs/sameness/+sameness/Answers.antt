@@ -7,7 +7,7 @@ use Rattle.std.proofs.lemmas.Result.{err_from_is_err_and}
 use Rattle.pc_terms.specs.View.{tree_of}
 use Rattle.pc_rules.proofs.SameTrees.{false_true}
 use Rattle.reduce_machine.specs.Reads.{read}
-use Rattle.reduce_machine.proofs.Falling.{term_falls, arm_falls, type_falls, body_falls}
+use Rattle.pc_terms.proofs.Depths.{term_in, body_in, type_in, definition_in}
 use Rattle.lazy_conversion.specs.Lifted.{lifted_under, seen}
 use Rattle.lazy_conversion.specs.Walked.{walk_node, match_seen, branch_seen, def_seen}
 use Rattle.lazy_conversion.specs.Deep.{AreDeepDef}
@@ -38,8 +38,8 @@ pub same_lists-same_at-requires : goal.same_lists-same_at-requires
 same_lists-same_at-requires t c =
     let l : c.loop-i.i < length c.args.a.now = grind arith in
     let r : c.loop-i.i < length c.args.b.now = grind arith in
-    let left : depth c.index-xs-i.result ≤ depth_trees (terms_of c.args.a.now) = term_falls c.args.a.now c.loop-i.i c.index-xs-i.result (cc) l in
-    let right : depth c.index-ys-i.result ≤ depth_trees (terms_of c.args.b.now) = term_falls c.args.b.now c.loop-i.i c.index-ys-i.result (cc) r in
+    let left : depth c.index-xs-i.result ≤ depth_trees (terms_of c.args.a.now) = term_in c.args.a.now c.loop-i.i c.index-xs-i.result l (cc) in
+    let right : depth c.index-ys-i.result ≤ depth_trees (terms_of c.args.b.now) = term_in c.args.b.now c.loop-i.i c.index-ys-i.result r (cc) in
     search (rules, left, right)
 
 pub same_lists-returns-in_err-one-clause-too_deep : goal.same_lists-returns-in_err-one-clause-too_deep
@@ -59,8 +59,8 @@ pub same_branches-same_branch-requires : goal.same_branches-same_branch-requires
 same_branches-same_branch-requires t c =
     let l : c.loop-i.i < length c.args.a.now = grind arith in
     let r : c.loop-i.i < length c.args.b.now = grind arith in
-    let left : depth c.index-xs-i.result.body ≤ depth_trees (arms_of c.args.a.now) = arm_falls c.args.a.now c.loop-i.i c.index-xs-i.result (cc) l in
-    let right : depth c.index-ys-i.result.body ≤ depth_trees (arms_of c.args.b.now) = arm_falls c.args.b.now c.loop-i.i c.index-ys-i.result (cc) r in
+    let left : depth c.index-xs-i.result.body ≤ depth_trees (arms_of c.args.a.now) = body_in c.args.a.now c.loop-i.i c.index-xs-i.result l (cc) in
+    let right : depth c.index-ys-i.result.body ≤ depth_trees (arms_of c.args.b.now) = body_in c.args.b.now c.loop-i.i c.index-ys-i.result r (cc) in
     search (rules, left, right)
 
 pub same_branches-returns-in_err-one-clause-too_deep : goal.same_branches-returns-in_err-one-clause-too_deep
@@ -80,10 +80,10 @@ pub same_defs-same_def-requires : goal.same_defs-same_def-requires
 same_defs-same_def-requires t c =
     let l : c.loop-i.i < length c.args.a.now = grind arith in
     let r : c.loop-i.i < length c.args.b.now = grind arith in
-    let left : depth c.index-xs-i.result.ty ≤ depth_defs c.args.a.now = type_falls c.args.a.now c.loop-i.i c.index-xs-i.result (cc) l in
-    let left_body : depth c.index-xs-i.result.body ≤ depth_defs c.args.a.now = body_falls c.args.a.now c.loop-i.i c.index-xs-i.result (cc) l in
-    let right : depth c.index-ys-i.result.ty ≤ depth_defs c.args.b.now = type_falls c.args.b.now c.loop-i.i c.index-ys-i.result (cc) r in
-    let right_body : depth c.index-ys-i.result.body ≤ depth_defs c.args.b.now = body_falls c.args.b.now c.loop-i.i c.index-ys-i.result (cc) r in
+    let left : depth c.index-xs-i.result.ty ≤ depth_defs c.args.a.now = type_in c.args.a.now c.loop-i.i c.index-xs-i.result l (cc) in
+    let left_body : depth c.index-xs-i.result.body ≤ depth_defs c.args.a.now = definition_in c.args.a.now c.loop-i.i c.index-xs-i.result l (cc) in
+    let right : depth c.index-ys-i.result.ty ≤ depth_defs c.args.b.now = type_in c.args.b.now c.loop-i.i c.index-ys-i.result r (cc) in
+    let right_body : depth c.index-ys-i.result.body ≤ depth_defs c.args.b.now = definition_in c.args.b.now c.loop-i.i c.index-ys-i.result r (cc) in
     search (rules, left, left_body, right, right_body)
 
 pub same_defs-returns-in_err-one-clause-too_deep : goal.same_defs-returns-in_err-one-clause-too_deep

@@ -7,7 +7,7 @@ use Rattle.pc_terms.specs.Lists.{arms_of, depth_defs, walk_branch, walk_def}
 use Rattle.reduce_machine.proofs.Limited.{term_under, arm_under, def_under}
 use Rattle.reduce_machine.specs.Reads.{stands_under}
 use Rattle.reduce_machine.proofs.Standing.{item_ok, item_deep, item_beyond, past_ok}
-use Rattle.reduce_machine.proofs.Falling.{term_falls, arm_falls, type_falls, body_falls}
+use Rattle.pc_terms.proofs.Depths.{term_in, body_in, type_in, definition_in}
 use Rattle.reduce_machine.proofs.reading.+reading.Goals as goal
 
 pub read_terms-returns-in_err-t-clause-too_deep : goal.read_terms-returns-in_err-t-clause-too_deep
@@ -57,23 +57,23 @@ read_defs-returns-in_err-body-clause-too_deep t c =
 pub read_terms-read_above-requires : goal.read_terms-read_above-requires
 read_terms-read_above-requires t c =
     let lt : c.loop-t.t-index < length c.args.terms.now = grind arith in
-    let falls : depth c.t-item.result ≤ depth_trees (terms_of c.args.terms.now) = term_falls c.args.terms.now c.loop-t.t-index c.t-item.result (cc) lt in
+    let falls : depth c.t-item.result ≤ depth_trees (terms_of c.args.terms.now) = term_in c.args.terms.now c.loop-t.t-index c.t-item.result lt (cc) in
     search (rules, falls)
 
 pub read_branches-read_above-requires : goal.read_branches-read_above-requires
 read_branches-read_above-requires t c =
     let lt : c.loop-b.b-index < length c.args.branches.now = grind arith in
-    let falls : depth c.b-item.result.body ≤ depth_trees (arms_of c.args.branches.now) = arm_falls c.args.branches.now c.loop-b.b-index c.b-item.result (cc) lt in
+    let falls : depth c.b-item.result.body ≤ depth_trees (arms_of c.args.branches.now) = body_in c.args.branches.now c.loop-b.b-index c.b-item.result lt (cc) in
     search (rules, falls)
 
 pub read_defs-read_above-requires : goal.read_defs-read_above-requires
 read_defs-read_above-requires t c =
     let lt : c.loop-d.d-index < length c.args.defs.now = grind arith in
-    let falls : depth c.d-item.result.ty ≤ depth_defs c.args.defs.now = type_falls c.args.defs.now c.loop-d.d-index c.d-item.result (cc) lt in
+    let falls : depth c.d-item.result.ty ≤ depth_defs c.args.defs.now = type_in c.args.defs.now c.loop-d.d-index c.d-item.result lt (cc) in
     search (rules, falls)
 
 pub read_defs-read_above-requires-in-loop-d : goal.read_defs-read_above-requires-in-loop-d
 read_defs-read_above-requires-in-loop-d t c =
     let lt : c.loop-d.d-index < length c.args.defs.now = grind arith in
-    let falls : depth c.d-item.result.body ≤ depth_defs c.args.defs.now = body_falls c.args.defs.now c.loop-d.d-index c.d-item.result (cc) lt in
+    let falls : depth c.d-item.result.body ≤ depth_defs c.args.defs.now = definition_in c.args.defs.now c.loop-d.d-index c.d-item.result lt (cc) in
     search (rules, falls)

@@ -1,7 +1,8 @@
 use Rattle.std.proofs.Common.{◌≡◌, ◌+◌, ◌<◌, ◌∙◌, zero, suc, ap, sym, refl, arith}
 use Rattle.reduce_machine.specs.Reducts.{ticks}
-use Rattle.reduce_machine.proofs.Keeping.{ticks_next, ticks_on, no_more, one_more}
+use Rattle.reduce_machine.proofs.Keeping.{ticks_next, ticks_on, one_more}
 use Rattle.reduce_machine.proofs.weak.take_units.Goals as goal
+use Rattle.pc_rules.proofs.Meters.{no_more}
 
 pub units-init : goal.units-init
 units-init c = record { most = omega arith; taken = omega arith; account = refl; empty = refl; nest = refl }

@@ -2,8 +2,9 @@ use Rattle.std.proofs.Common.{Some, ◌≡◌, ◌≤◌, ◌<◌, ◌+◌, refl
 use Rattle.std.proofs.Math.Seq.{take_all}
 use Rattle.driver.specs.ReportLines.{lines}
 use Rattle.driver.proofs.LineByLine.{lines_more, lines_split}
-use Rattle.driver.proofs.PartByPart.{appends_as, appends_both, appends_none, line_cut, line_then, takes_as, tells_same, tells_then}
+use Rattle.driver.proofs.PartByPart.{appends_as, appends_both, appends_none, line_cut, line_then, takes_as, tells_same}
 use Rattle.driver.proofs.reporting.lines.write_lines.Goals as goal
+use Rattle.kio.proofs.Bytes.{tells-again}
 
 pub loop-report-init : goal.loop-report-init
 loop-report-init g c = record { gone = appends_none _; history = appends_none (Some _); tells = tells_same _; later = omega arith; still = λ e. refl }
@@ -20,7 +21,7 @@ returns-in_err-write_line-clause-line g c =
     takes_as _ _ _ _ _ _ (lines_split (λ b. (goal.Report-dyn g (b.vtable, b.value)).shown b.value) xs i x lt is) (line_then _ _ _ _ _ _ _ _ before.gone before.later (line_cut _ _ _ _ _ _ w.line w.fault))
 
 pub returns-in_err-write_line-clause-tells : goal.returns-in_err-write_line-clause-tells
-returns-in_err-write_line-clause-tells g c = tells_then _ _ _ c.loop-report.invariant.tells c.in_err-write_line.ensures.tells
+returns-in_err-write_line-clause-tells g c = tells-again _ _ _ c.loop-report.invariant.tells c.in_err-write_line.ensures.tells
 
 pub loop-report-preserved : goal.loop-report-preserved
 loop-report-preserved g c =
@@ -36,7 +37,7 @@ loop-report-preserved g c =
           (g.E.Sink.taken c.loop-report.err) (g.E.Sink.taken c.write_line.new.err) _ _ before.gone w.all);
       history = appends_as (Some (g.E.Sink.received c.args.err.now)) (Some (g.E.Sink.received c.write_line.new.err)) _ _ (lines_more (λ b. (goal.Report-dyn g (b.vtable, b.value)).shown b.value) xs i (i + 1) x lt is (omega arith))
           (appends_both (Some (g.E.Sink.received c.args.err.now)) (Some (g.E.Sink.received c.loop-report.err)) (Some (g.E.Sink.received c.write_line.new.err)) _ _ before.history w.history_all);
-      tells = tells_then _ _ _ before.tells w.tells;
+      tells = tells-again _ _ _ before.tells w.tells;
       later = omega (arith, before.later, w.line.count);
       still = λ e. absurd (omega (arith, e));
     }

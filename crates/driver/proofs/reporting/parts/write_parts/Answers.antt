@@ -1,7 +1,8 @@
 use Rattle.std.proofs.Common.{◌++◌, Some}
 use Rattle.std.proofs.lemmas.Result.{on_ok_weaker}
-use Rattle.driver.proofs.PartByPart.{appends_both, err_anyway, fault_later, line_ends, line_stops, line_then, part_by_history, rose_later, tells_then}
+use Rattle.driver.proofs.PartByPart.{appends_both, err_anyway, fault_later, line_ends, line_stops, line_then, part_by_history, rose_later}
 use Rattle.driver.proofs.reporting.parts.write_parts.Goals as goal
+use Rattle.kio.proofs.Bytes.{tells-again}
 
 pub returns-in_err-write_all-clause-line : goal.returns-in_err-write_all-clause-line
 returns-in_err-write_all-clause-line g c =
@@ -31,7 +32,7 @@ returns-in_err-write_all-2-clause-line g c =
     line_then _ _ _ _ _ _ c.args.front.now (c.args.digits.now ++ rest) w.all w.cause.later (line_stops _ _ _ _ _ c.args.digits.now rest e.part.0 e.part.1 e.cause.later e.cause.failed)
 
 pub returns-in_err-write_all-2-clause-tells : goal.returns-in_err-write_all-2-clause-tells
-returns-in_err-write_all-2-clause-tells g c = tells_then _ _ _ c.in_ok-write_all.ensures.tells c.in_err-write_all-2.ensures.tells
+returns-in_err-write_all-2-clause-tells g c = tells-again _ _ _ c.in_ok-write_all.ensures.tells c.in_err-write_all-2.ensures.tells
 
 pub returns-in_err-write_all-3-clause-line : goal.returns-in_err-write_all-3-clause-line
 returns-in_err-write_all-3-clause-line g c =
@@ -43,7 +44,7 @@ returns-in_err-write_all-3-clause-line g c =
     (line_stops _ _ _ _ _ c.args.place.now rest e.part.0 e.part.1 e.cause.later e.cause.failed))
 
 pub returns-in_err-write_all-3-clause-tells : goal.returns-in_err-write_all-3-clause-tells
-returns-in_err-write_all-3-clause-tells g c = tells_then _ _ _ c.in_ok-write_all.ensures.tells (tells_then _ _ _ c.in_ok-write_all-2.ensures.tells c.in_err-write_all-3.ensures.tells)
+returns-in_err-write_all-3-clause-tells g c = tells-again _ _ _ c.in_ok-write_all.ensures.tells (tells-again _ _ _ c.in_ok-write_all-2.ensures.tells c.in_err-write_all-3.ensures.tells)
 
 pub returns-in_err-write_all-4-clause-line : goal.returns-in_err-write_all-4-clause-line
 returns-in_err-write_all-4-clause-line g c =
@@ -57,7 +58,7 @@ returns-in_err-write_all-4-clause-line g c =
 
 pub returns-in_err-write_all-4-clause-tells : goal.returns-in_err-write_all-4-clause-tells
 returns-in_err-write_all-4-clause-tells g c =
-    tells_then _ _ _ c.in_ok-write_all.ensures.tells (tells_then _ _ _ c.in_ok-write_all-2.ensures.tells (tells_then _ _ _ c.in_ok-write_all-3.ensures.tells c.in_err-write_all-4.ensures.tells))
+    tells-again _ _ _ c.in_ok-write_all.ensures.tells (tells-again _ _ _ c.in_ok-write_all-2.ensures.tells (tells-again _ _ _ c.in_ok-write_all-3.ensures.tells c.in_err-write_all-4.ensures.tells))
 
 pub returns-in_err-write_all-clause-history_line : goal.returns-in_err-write_all-clause-history_line
 returns-in_err-write_all-clause-history_line g c =
@@ -107,7 +108,7 @@ returns g c =
       line = line_then _ _ _ _ _ _ c.args.front.now (c.args.digits.now ++ (c.args.place.now ++ rest)) w.all w.cause.later (line_then _ _ _ _ _ _ c.args.digits.now (c.args.place.now ++ rest) x.all x.cause.later
           (line_then _ _ _ _ _ _ c.args.place.now rest y.all y.cause.later (line_then _ _ _ _ _ _ c.args.name.now c.args.end.now z.all z.cause.later (line_ends _ _ _ _ c.args.end.now c.write_all-5.result e.all e.part e.cause))));
       tells =
-          tells_then _ _ _ w.tells (tells_then _ _ _ x.tells (tells_then _ _ _ y.tells (tells_then _ _ _ z.tells e.tells)));
+          tells-again _ _ _ w.tells (tells-again _ _ _ x.tells (tells-again _ _ _ y.tells (tells-again _ _ _ z.tells e.tells)));
       history_all = on_ok_weaker c.write_all-5.result
           (λ h. appends_both (Some (g.E.Sink.received c.args.err.now)) (Some (g.E.Sink.received c.write_all.new.out)) (Some (g.E.Sink.received c.write_all-5.new.out)) c.args.front.now (c.args.digits.now ++ (c.args.place.now ++ (c.args.name.now ++ c.args.end.now))) w.received
           (appends_both (Some (g.E.Sink.received c.write_all.new.out)) (Some (g.E.Sink.received c.write_all-2.new.out)) (Some (g.E.Sink.received c.write_all-5.new.out)) c.args.digits.now (c.args.place.now ++ (c.args.name.now ++ c.args.end.now)) x.received

@@ -14,11 +14,13 @@ use Rattle.erase.proofs.Runs.{by_memory, test_err, test_boxes, test_memory, test
 use Rattle.calculus_rules.specs.Instances.{branch_entries}
 use Rattle.calculus_rules.specs.Environment.{with_parameters}
 use Rattle.box_terms.specs.BoxLists.{arms_of as box_arms}
-use Rattle.erase.proofs.ArmRuns.{entries_leave, entries_err, entries_go, branch_context, arms_all, after_more, arms_stop, arms_memory, arms_next, arms_end, scrutinee_err, arms_err, case_done, case_memory, case_within, constructors_counted, arm_is_less, arm_counted, args_counted, are_counted}
+use Rattle.erase.proofs.ArmRuns.{entries_leave, entries_err, entries_go, branch_context, arms_all, after_more, arms_stop, arms_memory, arms_next, arms_end, scrutinee_err, arms_err, case_done, case_memory, case_within, constructors_counted, arm_counted, args_counted}
 use Rattle.box_terms.specs.declared.term.BoxDef.{BoxDef}
 use Rattle.erase.proofs.BodyRuns.{entries_counted, bodies_all, after_body, rargs_next, bodies_stop, bodies_memory, bodies_next, bodies_end, fix_fault, fix_err, fix_done, fix_memory, fix_within, body_is_less, body_counted}
 use Rattle.known_types.proofs.Longer.{one_longer, extends_longer}
 use Rattle.erase.proofs.terms.Eraser.+erase.Goals as goal
+use Rattle.erasable.proofs.TestRuns.{are_counted}
+use Rattle.pc_terms.proofs.Depths.{body_in}
 
 -- a term
 
@@ -248,7 +250,7 @@ branches-branch-self-requires g t c =
     let l : c.loop-i.i < length c.as_slice-xs.result.now = grind arith in
     let w : EachTerm (IsCountedNode c.args.env.now) (arms_of c.as_slice-xs.result.now) = subst (λ xs. EachTerm (IsCountedNode c.args.env.now) (arms_of xs)) (sym c.as_slice-xs.ensures.is) c.requires.counted.1.1.1.1.0 in
     let a = (arm_counted c.args.env.now c.as_slice-xs.result.now c.loop-i.i c.index-xs-i.result w l c.index-xs-i.is) in
-    let d = subst (λ xs. depth c.index-xs-i.result.body ≤ depth_trees (arms_of xs)) c.as_slice-xs.ensures.is (arm_is_less c.as_slice-xs.result.now c.loop-i.i c.index-xs-i.result l c.index-xs-i.is) in
+    let d = subst (λ xs. depth c.index-xs-i.result.body ≤ depth_trees (arms_of xs)) c.as_slice-xs.ensures.is (body_in c.as_slice-xs.result.now c.loop-i.i c.index-xs-i.result l c.index-xs-i.is) in
     let u : AreCountedConstructors c.args.env.now c.as_slice-listed.result.now = subst (λ Cs. AreCountedConstructors c.args.env.now Cs) (sym c.as_slice-listed.ensures.is) c.requires.ctors in
     let q = args_counted c.args.env.now c.as_slice-listed.result.now c.loop-i.i c.index-listed-i.result u k c.index-listed-i.is in
     let p = are_counted c.args.env.now c.args.x.now.params c.requires.counted.1.0 in

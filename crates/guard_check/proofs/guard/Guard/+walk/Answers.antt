@@ -7,7 +7,7 @@ use Rattle.trees.specs.Measures.{depth, depth_trees}
 use Rattle.pc_terms.specs.Lists.{arms_of, rargs_of, types_of, bodies_of, depth_defs}
 use Rattle.calculus_rules.specs.Guardedness.{Smaller}
 use Rattle.guard_check.specs.Marks.{mark_of, values_in, marks_in}
-use Rattle.guard_check.proofs.Depths.{term_in, body_in, type_in, definition_in}
+use Rattle.pc_terms.proofs.Depths.{term_in, body_in, type_in, definition_in}
 use Rattle.guard_check.proofs.WalkRuns.{walk_leaf, walk_in, follows_last, terms_next, terms_stop, terms_end, branches_next, branches_stop, branches_end, definitions_next, definitions_type, definitions_body, definitions_end, passed_next, passed_type, passed_body, passed_end, fix_smaller, fix_other, under_in, under_other, under_stops, under_last, under_more, app_stops, let_stops, let_type_stops, let_memory, under_last_memory, under_more_memory}
 use Rattle.guard_check.proofs.guard.Guard.+walk.Goals as goal
 

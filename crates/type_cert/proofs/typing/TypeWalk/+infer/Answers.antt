@@ -18,13 +18,13 @@ use Rattle.type_infer.specs.Ready.{IsReady}
 use Rattle.type_infer.proofs.Beginning.{assumed_ready, defined_ready}
 use Rattle.type_infer.proofs.Finding.{if_ok}
 use Rattle.type_infer.proofs.Fixing.{definitions_next, definitions_done, lift_beyond}
-use Rattle.type_infer.proofs.Matching.{longer_next}
+use Rattle.type_infer.proofs.Matching.{longer_next, whnf_is_counted}
 use Rattle.type_cert.specs.Going.{inferring}
 use Rattle.type_cert.proofs.Retracing.{retraces_on, retraces_err, retraces_pass, retraces_memory, retraces_passed, passed_nothing, retraces_with, retraces_value, retraces_made, retraces_fault, retraces_answers, retraces_follows, retraces_passing, retraces_beyond, retraces_after, retraces_before, told_of}
 use Rattle.type_infer.proofs.Pendings.{pending_product, pending_beyond}
 use Rattle.type_cert.proofs.Sorting.{unread_done, unread_passed, sort_given, given_halts, given_passed, given_on, sort_taken, sort_stays, sort_passes, sort_counted}
 use Rattle.type_cert.proofs.WalkedPendings.{ends_made, pends_there, pends_whole, pends_fault, pends_from, pends_passed, pends_halts, pends_each, argument_halts, halts_passed, passes_ok, passes_err, product_stays}
-use Rattle.type_cert.proofs.Inferring.{infer_spent, infer_nested, infer_entered, inferred_from, reached_counted, sort_there, sort_goes, product_found, no_retype, retype_stops, retype_goes, fits_same, fits_differ, fits_conv}
+use Rattle.type_cert.proofs.Inferring.{infer_spent, infer_nested, infer_entered, inferred_from, sort_there, sort_goes, product_found, no_retype, retype_stops, retype_goes, fits_same, fits_differ, fits_conv}
 use Rattle.type_cert.proofs.TypedLists.{entered_next, entered_stop, entered_end, all_next, all_stop, all_fault, all_end, branches_next, branches_stop, branches_end, types_next, types_stop, types_fault, types_done, definitions_go, definitions_stop, definitions_end, all_definitions, few_lambdas, lambdas_found, is_family, no_family_found}
 use Rattle.type_cert.proofs.TypedMatches.{case_goes, case_unknown, pred_fault, family_there, family_halts, raised_by_none}
 use Rattle.type_cert.proofs.Guardable.{guardable}
@@ -742,7 +742,7 @@ predicate_rule-returns g t c =
 -- a scrutinee
 pub scrutinee_rule-fits-requires : goal.scrutinee_rule-fits-requires
 scrutinee_rule-fits-requires g t c =
-    let w : IsCounted c.args.self.now.verifier.env.now c.in_ok-count.found = reached_counted _ _ _ _ _ c.requires.ready c.in_ok-ty.ensures.inferred c.in_ok-count.ensures.steps in
+    let w : IsCounted c.args.self.now.verifier.env.now c.in_ok-count.found = whnf_is_counted _ _ _ _ _ c.requires.ready c.in_ok-ty.ensures.inferred c.in_ok-count.ensures.steps in
     let n = c.in_ok-retype.ensures.retraces.after.nest ∙ c.in_ok-count.ensures.retraces.after.nest ∙ c.in_ok-ty.ensures.retraces.after.nest in
     search rules
 
