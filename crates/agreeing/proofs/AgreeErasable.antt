@@ -2,7 +2,7 @@
 use Rattle.std.proofs.Common.{ℕ, zero, suc, Bool, true, false, Option, Some, None, slice_get, ◌∷◌}
 use Rattle.universe_levels.specs.declared.sort.Sort.{Sort}
 use Rattle.pc_terms.specs.declared.leaf.FamilyId.{FamilyId}
-use Rattle.pc_terms.specs.Syntax.{Term, SortT, Prod, Construct, Case}
+use Rattle.pc_terms.specs.Syntax.{Term, SortT, Prod, Construct, Case, list_of}
 use Rattle.std.specs.Prelude.{List}
 use Rattle.calculus_rules.specs.declared.declaration.Constructor.{Constructor}
 use Rattle.calculus_rules.specs.declared.entry.Entry.TheVariants.{Assumed}
@@ -14,7 +14,6 @@ use Rattle.calculus_rules.specs.declared.evidence.Evidence.TheVariants.{Arity, P
 use Rattle.pc_rules.specs.DirectedRun.{Run, no_unit, is_beyond, any_beyond}
 use Rattle.calculus_rules.specs.Lookups.{family_of}
 use Rattle.pc_rules.specs.DirectedWeakHead.{weak_next}
-use Rattle.calculus_rules.specs.Listed.{list_of}
 use Rattle.pc_rules.specs.DirectedTyping.{Typing}
 use Rattle.pc_rules.specs.DirectedErasable.{TypeEnding, ending_on, end_of, ends_in_sort, arity_found, type_test, numbered_test, constructor_test, match_test, erasable_test}
 use Rattle.calculus_rules.specs.PropSorts.{is_prop}

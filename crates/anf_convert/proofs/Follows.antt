@@ -1,7 +1,8 @@
 -- The program in A-normal form follows the evaluation of the program after erasure.
-use Rattle.std.proofs.Common.{◌≡◌, ℕ, zero, suc, ◌+◌, ◌<◌, ◌≤◌, List, [], ◌∷◌, ◌++◌, map, length, length-append, Option, Some, None, Bool, true, false, refl, sym, ap, ◌∙◌, subst as transport, arith}
+use Rattle.std.proofs.Common.{◌≡◌, ℕ, zero, suc, ◌+◌, ◌<◌, ◌≤◌, List, [], ◌∷◌, ◌++◌, map, length, length-append, Option, Some, Bool, true, false, refl, sym, ap, ◌∙◌, subst as transport, arith}
 use Rattle.std.specs.Prelude.{slice_get, AllPairs, ◌≢◌, nat_eq, slice_index_or, if◌then◌else◌}
 use Rattle.std.proofs.lemmas.Bool.{eq-eqb, eqb-true}
+use Rattle.std.proofs.lemmas.Option.{none-some, some_pair_parts}
 use Rattle.trees.specs.Tree.{Done, Next, term_at}
 use Rattle.pc_terms.specs.declared.leaf.Name.{Name}
 use Rattle.pc_terms.specs.declared.leaf.FamilyId.{FamilyId}
@@ -25,17 +26,11 @@ NotCon (WCon c vs) = ⊥
 NotCon (WClos s e b) = Unit {0}
 NotCon (WFix s e ds i) = Unit {0}
 
-some_pair : {x y : ℕ × BoxTerm} → Some x ≡ Some y → x ≡ y
-some_pair e = cc
-
 second : {m n : ℕ} {t u : BoxTerm} → ◌≡◌ {A = Option (ℕ × BoxTerm)} (Some (m, t)) (Some (n, u)) → t ≡ u
-second e = ap (λ (p : ℕ × BoxTerm). p.1) (some_pair e)
+second {m} {n} {t} {u} e = (some_pair_parts m n t u e).1
 
 first : {m n : ℕ} {t u : BoxTerm} → ◌≡◌ {A = Option (ℕ × BoxTerm)} (Some (m, t)) (Some (n, u)) → m ≡ n
-first e = ap (λ (p : ℕ × BoxTerm). p.0) (some_pair e)
-
-none_pair : {p : ℕ × BoxTerm} → None ≡ Some p → ⊥
-none_pair e = cc
+first {m} {n} {t} {u} e = (some_pair_parts m n t u e).0
 
 module _ (K : Name → ℕ) (env : List Level) (d n : ℕ) where
   def_after : (m : ℕ) (rest : BoxTerms) {i : ℕ} {b : AnfBlock} (t : BoxTerm) → LamAt (norm_defs K env d n rest) i b → LamAt (norm_defs K env d n (Next m t rest)) (suc i) b
@@ -43,7 +38,7 @@ module _ (K : Name → ℕ) (env : List Level) (d n : ℕ) where
   def_after m rest t h = lam_after_box h
 
   lam_at : (bodies : BoxTerms) (i m : ℕ) (t : BoxTerm) → term_at bodies i ≡ Some (m, BLambda t) → LamAt (norm_defs K env d n bodies) i (sealed (suc (d + n)) (norm K (LVar (d + n) ∷ levels d n env) (suc (d + n)) t))
-  lam_at Done i m t e = absurd (none_pair e)
+  lam_at Done i m t e = absurd (none-some _ e)
   lam_at (Next m' u rest) zero m t e = transport (λ z. LamAt (norm_defs K env d n (Next m' z rest)) zero (sealed (suc (d + n)) (norm K (LVar (d + n) ∷ levels d n env) (suc (d + n)) t))) (sym (second e)) lam_here
   lam_at (Next m' u rest) (suc i) m t e = def_after m' rest u (lam_at rest i m t e)
 
@@ -52,19 +47,19 @@ module _ (K : Name → ℕ) (env : List Level) (d n : ℕ) where
   box_after m rest t h = box_after_box h
 
   box_at : (bodies : BoxTerms) (i m : ℕ) → term_at bodies i ≡ Some (m, Box) → BoxAt (norm_defs K env d n bodies) i
-  box_at Done i m e = absurd (none_pair e)
+  box_at Done i m e = absurd (none-some _ e)
   box_at (Next m' u rest) zero m e = transport (λ z. BoxAt (norm_defs K env d n (Next m' z rest)) zero) (sym (second e)) box_here
   box_at (Next m' u rest) (suc i) m e = box_after m' rest u (box_at rest i m e)
 
 branch_at : (K : Name → ℕ) (env : List Level) (d : ℕ) (bs : BoxTerms) (i n : ℕ) (t : BoxTerm) → term_at bs i ≡ Some (n, t) → AnfBranchAt (norm_branches K env d bs) i n (sealed (d + n) (norm K (levels d n env) (d + n) t))
-branch_at K env d Done i n t e = absurd (none_pair e)
+branch_at K env d Done i n t e = absurd (none-some _ e)
 branch_at K env d (Next m u rest) zero n t e =
     transport (λ z. AnfBranchAt (norm_branches K env d (Next m u rest)) zero z (sealed (d + z) (norm K (levels d z env) (d + z) t))) (first e)
     (transport (λ z. AnfBranchAt (norm_branches K env d (Next m u rest)) zero m (sealed (d + m) (norm K (levels d m env) (d + m) z))) (second e) at_branch)
 branch_at K env d (Next m u rest) (suc i) n t e = after_branch (branch_at K env d rest i n t e)
 
 ready_at : (P : BoxProgram) (ts : BoxTerms) (i n : ℕ) (t : BoxTerm) → term_at ts i ≡ Some (n, t) → ReadyTerms P ts → Ready P t
-ready_at P Done i n t e ok = absurd (none_pair e)
+ready_at P Done i n t e ok = absurd (none-some _ e)
 ready_at P (Next m u rest) zero n t e ok = transport (Ready P) (second e) ok.0
 ready_at P (Next m u rest) (suc i) n t e ok = ready_at P rest i n t e ok.1
 

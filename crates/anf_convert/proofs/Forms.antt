@@ -1,6 +1,7 @@
 -- The program in A-normal form has its form.
-use Rattle.std.proofs.Common.{◌≡◌, ℕ, zero, suc, ◌+◌, ◌<◌, ◌≤◌, List, [], ◌∷◌, ◌++◌, map, length, length-append, Some, None, refl, sym, ap, ◌∙◌, subst as transport, arith}
+use Rattle.std.proofs.Common.{◌≡◌, ℕ, zero, suc, ◌+◌, ◌<◌, ◌≤◌, List, [], ◌∷◌, ◌++◌, map, length, length-append, Some, refl, sym, ap, ◌∙◌, subst as transport, arith}
 use Rattle.std.proofs.lemmas.List.{length-map}
+use Rattle.std.proofs.lemmas.Option.{none-some, same_Some}
 use Rattle.std.specs.Prelude.{slice_get}
 use Rattle.trees.specs.Tree.{Rel, Done, Next, number}
 use Rattle.pc_terms.specs.declared.leaf.Name.{Name}
@@ -218,14 +219,8 @@ module _ (k m : ℕ) where
       defs_fit d n j (r ∷ rs) (Next i t rest) le env under fit = defs_fit d n j rs rest le env under.1 fit.1
 
 constants_fit : (k m : ℕ) (K : Name → ℕ) (cs : List BoxConstant) → ((c : BoxConstant) → Has cs c → TermFits K k m 0 c.body) → (x : ℕ) (t : AnfBlock) → slice_get (map (λ (c : BoxConstant). code_of K c.body) cs) x ≡ Some t → AnfFits k m 0 t
-constants_fit k m K [] fit x t e = absurd (no e)
-  where
-    no : {u : AnfBlock} → None ≡ Some u → ⊥
-    no e = cc
-constants_fit k m K (c ∷ cs) fit zero t e = transport (AnfFits k m 0) (same e) (seal_fits k m (norm_fits k m K 0 0 c.body (omega arith) (record { at = λ i lt. absurd (omega arith) }) (fit c here)))
-  where
-    same : {u v : AnfBlock} → Some u ≡ Some v → u ≡ v
-    same e = cc
+constants_fit k m K [] fit x t e = absurd (none-some t e)
+constants_fit k m K (c ∷ cs) fit zero t e = transport (AnfFits k m 0) (same_Some _ _ e) (seal_fits k m (norm_fits k m K 0 0 c.body (omega arith) (record { at = λ i lt. absurd (omega arith) }) (fit c here)))
 constants_fit k m K (c ∷ cs) fit (suc x) t e = constants_fit k m K cs (λ d h. fit d (there h)) x t e
 
 length_codes : (f : BoxConstant → AnfBlock) (cs : List BoxConstant) → length (map f cs) ≡ length cs

@@ -2,7 +2,7 @@
 use Rattle.std.proofs.Common.{◌≡◌, ℕ, zero, suc, ◌≤◌, true, List, [], ◌∷◌, ◌++◌, reverse, ap, ◌∙◌, subst, sym, arith}
 use Rattle.std.proofs.lemmas.List.{reverse-append}
 use Rattle.trees.specs.Tree.{Rel, Done, Next}
-use Rattle.trees.specs.Measures.{depth, depth_trees}
+use Rattle.trees.specs.Measures.{depth, depth_trees, depth_limit}
 use Rattle.pc_terms.specs.declared.leaf.FamilyId.{FamilyId}
 use Rattle.box_terms.specs.BoxSyntax.{BoxTerm, BoxTerms, Box, BLambda, BLetIn, BApp, BConst, BConstruct, BCase, BFix}
 use Rattle.lambda_box.specs.BoxProgram.{BoxConstant, BoxFamily, BoxProgram, Has, here, there, KeepsBoxFamily}
@@ -44,7 +44,7 @@ module _ (P : BoxProgram) (form : IsBoxProgram P) where
       ap propositional_of r.finds ∙ ap (λ (G : BoxFamily). G.propositional) same ∙ prop
 
   mutual
-    prepared : (t : BoxTerm) → IsOrdinary P.families t → depth t ≤ 2048 → Prepared P t
+    prepared : (t : BoxTerm) → IsOrdinary P.families t → depth t ≤ depth_limit → Prepared P t
     prepared (Rel i) h le = tt
     prepared Box h le = (tt, tt)
     prepared (BLambda b) h le = (tt, (prepared b h (omega arith), tt))
@@ -57,25 +57,25 @@ module _ (P : BoxProgram) (form : IsBoxProgram P) where
         ((λ F kept prop. let e : Next n b bs ≡ Done = h.0 (ordinary_family f F kept prop) in absurd (cc)), (prepared s h.1 (omega arith), (prepared_all (Next n b bs) h.2 (omega arith), tt)))
     prepared (BFix i rargs bodies) h le = (tt, (prepared_all bodies h (omega arith), tt))
 
-    prepared_all : (ts : BoxTerms) → AreOrdinary P.families ts → depth_trees ts ≤ 2048 → PreparedTerms P ts
+    prepared_all : (ts : BoxTerms) → AreOrdinary P.families ts → depth_trees ts ≤ depth_limit → PreparedTerms P ts
     prepared_all Done h le = tt
     prepared_all (Next n t ts) h le = (prepared t h.0 (omega arith), prepared_all ts h.1 (omega arith))
 
-shallow_at : (cs : List BoxConstant) → AreShallow cs → (c : BoxConstant) → Has cs c → depth c.body ≤ 2048
+shallow_at : (cs : List BoxConstant) → AreShallow cs → (c : BoxConstant) → Has cs c → depth c.body ≤ depth_limit
 shallow_at [] h c m = elim m [ ]
 shallow_at (d ∷ cs) h c here = h.0
 shallow_at (d ∷ cs) h c (there m) = shallow_at cs h.1 c m
 
-pub all_shallow : (cs : List BoxConstant) → ((d : BoxConstant) → Has cs d → depth d.body ≤ 2048) → AreShallow cs
+pub all_shallow : (cs : List BoxConstant) → ((d : BoxConstant) → Has cs d → depth d.body ≤ depth_limit) → AreShallow cs
 all_shallow [] h = tt
 all_shallow (c ∷ cs) h = (h c here, all_shallow cs (λ d m. h d (there m)))
 
 -- a program of the form, within the depth limit and of ordinary matches, is one that can be converted
-pub shallow_suffices : (P : BoxProgram) → IsBoxProgram P → IsOrdinaryProgram P → AreShallow P.constants → depth P.main ≤ 2048 → (m : ℕ) → ConstructorsWithin P m → CanBeConverted P × ProgramFits P m
+pub shallow_suffices : (P : BoxProgram) → IsBoxProgram P → IsOrdinaryProgram P → AreShallow P.constants → depth P.main ≤ depth_limit → (m : ℕ) → ConstructorsWithin P m → CanBeConverted P × ProgramFits P m
 shallow_suffices P form ordinary shallow main m few =
     form_suffices P m form (λ d h. prepared P form d.body (ordinary.constants d h) (shallow_at P.constants shallow d h)) (prepared P form P.main ordinary.main main) few
 
-module _ (P : BoxProgram) (Q : AnfProgram) (is : Q ≡ to_anf P) (shallow : AreShallow P.constants) (main : depth P.main ≤ 2048) where
+module _ (P : BoxProgram) (Q : AnfProgram) (is : Q ≡ to_anf P) (shallow : AreShallow P.constants) (main : depth P.main ≤ depth_limit) where
   pub data_kept : ToAnfKeepsData P Q
   data_kept form ordinary =
       ((shallow_suffices P form ordinary shallow main 1024 (λ F h. (form.counts F h).constructors)).0, subst (KeepsAnswers P) (sym is) (to_anf_keeps P))
@@ -84,7 +84,7 @@ module _ (P : BoxProgram) (Q : AnfProgram) (is : Q ≡ to_anf P) (shallow : AreS
   form_kept form ordinary m few = subst (λ Q. AnfFormed Q m) (sym is) (to_anf_forms P m (shallow_suffices P form ordinary shallow main m few).1)
 
 -- more constants, and constants in another order
-pub shallow_more : (cs : List BoxConstant) (d : BoxConstant) → AreShallow cs → depth d.body ≤ 2048 → AreShallow (cs ++ (d ∷ []))
+pub shallow_more : (cs : List BoxConstant) (d : BoxConstant) → AreShallow cs → depth d.body ≤ depth_limit → AreShallow (cs ++ (d ∷ []))
 shallow_more [] d h le = (le, tt)
 shallow_more (c ∷ cs) d h le = (h.0, shallow_more cs d h.1 le)
 

@@ -1,6 +1,6 @@
 -- No closure of the program in A-normal form is wider.
 use Rattle.std.proofs.Common.{◌≡◌, ℕ, zero, suc, ◌+◌, ◌-◌, ◌<◌, ◌≤◌, List, [], ◌∷◌, ◌++◌, map, length, Bool, true, false, refl, sym, ap, ◌∙◌, subst as transport, ⊎_elim, arith}
-use Rattle.std.proofs.lemmas.Bool.{eq-eqb, eqb-true, eqb-false, cases_lt, and_from, or_left, or_right}
+use Rattle.std.proofs.lemmas.Bool.{eq-eqb, eqb-true, eqb-false, cases_lt, and_from, or_left, or_right, true≢false}
 use Rattle.std.specs.Prelude.{nat_eq, nat_lt, ◌||◌, ◌&&◌, if◌then◌else◌}
 use Rattle.trees.specs.Tree.{Rel, Done, Next}
 use Rattle.pc_terms.specs.declared.leaf.Name.{Name}
@@ -379,15 +379,12 @@ abbrev drop_word : ℕ → List ℕ → List ℕ
 drop_word y [] = []
 drop_word y (x ∷ xs) = if nat_eq y x then drop_word y xs else x ∷ drop_word y xs
 
-true_false : true ≡ false → ⊥
-true_false e = cc
-
 drop_none : (y : ℕ) (xs : List ℕ) → is_in y xs ≡ false → drop_word y xs ≡ xs
 drop_none y [] e = refl
 drop_none y (x ∷ xs) e = go (nat_eq y x) e (drop_none y xs)
   where
     go : (b : Bool) → (if b then true else is_in y xs) ≡ false → (is_in y xs ≡ false → drop_word y xs ≡ xs) → (if b then drop_word y xs else x ∷ drop_word y xs) ≡ x ∷ xs
-    go true e rec = absurd (true_false e)
+    go true e rec = absurd (true≢false e)
     go false e rec = ap (λ zs. x ∷ zs) (rec e)
 
 drop_in : (k y : ℕ) (xs : List ℕ) → is_in k xs ≡ false → is_in k (drop_word y xs) ≡ false
@@ -395,7 +392,7 @@ drop_in k y [] e = refl
 drop_in k y (x ∷ xs) e = go (nat_eq k x) (nat_eq y x) refl e (drop_in k y xs)
   where
     go : (a b : Bool) → nat_eq k x ≡ a → (if a then true else is_in k xs) ≡ false → (is_in k xs ≡ false → is_in k (drop_word y xs) ≡ false) → is_in k (if b then drop_word y xs else x ∷ drop_word y xs) ≡ false
-    go true b h e rec = absurd (true_false e)
+    go true b h e rec = absurd (true≢false e)
     go false true h e rec = rec e
     go false false h e rec = rw h (rec e)
 
@@ -428,7 +425,7 @@ later_word (in_here h same) other = absurd (other same)
 later_word (in_later q) other = q
 
 later_off : {v : ClosureValue} {e : ClosureEnv} {N : ℕ → Bool} {y z : ℕ} {ys : List ℕ} → N 0 ≡ false → InWords (Bind v e) N (y ∷ ys) z → InWords e (λ i. N (suc i)) ys z
-later_off off (in_here h same) = absurd (true_false (sym h ∙ off))
+later_off off (in_here h same) = absurd (true≢false (sym h ∙ off))
 later_off off (in_later q) = q
 
 past_word : {rargs : List ℕ} {bodies : BoxTerms} {e : ClosureEnv} {N : ℕ → Bool} {z : ℕ} {ys : List ℕ} → InWords (BindFix rargs bodies e) N ys z → InWords e (past N rargs bodies) ys z

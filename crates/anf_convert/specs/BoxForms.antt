@@ -3,7 +3,7 @@ use Rattle.std.specs.Prelude.{◌≡◌, ℕ, ◌≤◌, true, List, [], ◌∷�
 use Rattle.trees.specs.Tree.{Slot, Rel, Node, Places, End, Child, Group, Done, Next}
 use Rattle.box_terms.specs.BoxSyntax.{BoxLabel, box_slots, BoxTerm, BoxTerms, BApp, BCase}
 use Rattle.lambda_box.specs.BoxProgram.{BoxConstant, BoxFamily, BoxProgram, Has, KeepsBoxFamily}
-use Rattle.trees.specs.Measures.{depth}
+use Rattle.trees.specs.Measures.{depth, depth_limit}
 use Rattle.lambda_box.specs.BoxForm.{IsBoxProgram}
 use Rattle.lambda_box.specs.OrdinaryForm.{IsOrdinaryProgram}
 use Rattle.anf_convert.specs.Anf.{AnfProgram}
@@ -40,7 +40,7 @@ FormSuffices =
 -- no term is deeper than terms are
 abbrev pub AreShallow : List BoxConstant → Type 0
 AreShallow [] = Unit {0}
-AreShallow (c ∷ cs) = (depth c.body ≤ 2048) × AreShallow cs
+AreShallow (c ∷ cs) = (depth c.body ≤ depth_limit) × AreShallow cs
 
 -- no family has over m constructors
 abbrev pub ConstructorsWithin : BoxProgram → ℕ → Type 0

@@ -1,6 +1,6 @@
 //! The pass.
 ghost use Rattle.std.specs.Prelude.{◌≡◌, ◌≤◌, IfOk, IfErr, map};
-ghost use Rattle.trees.specs.Measures.{depth};
+ghost use Rattle.trees.specs.Measures.{depth, depth_limit};
 ghost use Rattle.anf_convert.specs.BoxForms.{AreShallow, ToAnfKeepsData, HasAnfForm};
 ghost use Rattle.anf_convert.specs.ToAnf as spec;
 ghost use Rattle.anf_convert.specs.Writing.{number_of};
@@ -64,7 +64,7 @@ fn constants(alloc: Global, cs: &BoxConstants) -> Result<AnfConstants, PassFault
 /// The block of a term that stands under no variable. `Memory` as with `to_anf`.
 fn code(alloc: Global, t: &BoxTerm) -> Result<AnfBlock, PassFault>
     ensures ok { IfOk result (λ b. b ≡ spec.code_of number_of t.now) }
-    ensures shallow { IfOk result (λ _. depth t.now ≤ 2048) }
+    ensures shallow { IfOk result (λ _. depth t.now ≤ depth_limit) }
     ensures only_memory { IfErr result (λ e. e ≡ Memory) }
 {
     let _within = t.depth();

@@ -5,7 +5,7 @@ use Rattle.pc_terms.specs.declared.leaf.FamilyId.{FamilyId}
 use Rattle.box_terms.specs.BoxSyntax.{BoxTerm, BoxTerms, Box, BLambda, BApp, BConstruct, BFix}
 use Rattle.lambda_box.specs.BoxProgram.{BoxFamily, BoxProgram, KeepsBoxFamily, box_apply}
 use Rattle.lambda_box.specs.BoxEvaluation.{BoxEvaluates, value, constant, let_in, beta, box_app, extend, unfold_fix, enter, enter_only, BoxUnfolds, unfolds}
-use Rattle.lambda_box.proofs.Spines.{head_of, head_apply, fix_head, construct_not_fix}
+use Rattle.lambda_box.proofs.Spines.{head_of, head_apply, fix_head, construct_not_fix, apply_last}
 
 -- the term is constructor c of the family, applied to n terms
 pub data Built (f : FamilyId) (c : ℕ) : ℕ → BoxTerm → Type 0 where
@@ -40,10 +40,6 @@ pub record BuiltList (f : FamilyId) (c n : ℕ) (t : BoxTerm) : Type 0 where
   pub count : length arguments ≡ n
   pub is : t ≡ box_apply (BConstruct f c) arguments
 
-last_applied : (f : BoxTerm) (xs : List BoxTerm) (x : BoxTerm) → box_apply f (xs ++ x ∷ []) ≡ BApp (box_apply f xs) x
-last_applied f [] x = refl
-last_applied f (y ∷ xs) x = last_applied (BApp f y) xs x
-
 pub built_list : {f : FamilyId} {c n : ℕ} {t : BoxTerm} → Built f c n t → BuiltList f c n t
 built_list built_head = record { arguments = []; count = refl; is = refl }
 built_list {f} {c} (built_more {n = n} {t = t} {a = a} b) =
@@ -51,7 +47,7 @@ built_list {f} {c} (built_more {n = n} {t = t} {a = a} b) =
     record {
       arguments = r.arguments ++ a ∷ [];
       count = omega (arith, length-append r.arguments (a ∷ []), r.count);
-      is = ap (λ g. BApp g a) r.is ∙ sym (last_applied (BConstruct f c) r.arguments a);
+      is = ap (λ g. BApp g a) r.is ∙ sym (apply_last (BConstruct f c) r.arguments a);
     }
 
 -- its constructor and its number of arguments are determined

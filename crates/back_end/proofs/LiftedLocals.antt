@@ -5,7 +5,8 @@ use Rattle.anf_convert.specs.declared.program.Atom.{Atom}
 use Rattle.anf_convert.specs.declared.program.Atom.TheVariants.{Var as AVar, Box as ABox, Empty as AEmpty}
 use Rattle.anf_convert.specs.Anf.{AnfOp, ConstOp, AppOp, ConOp, LamOp, FixOp, CaseOp, AnfBlock, TailAtom, Tail, BindAtom, Bind, AnfBranches, NoBranch, Branch, AnfDefs, NoDef, LamDef, BoxDef, AnfProgram, def_count}
 use Rattle.anf_convert.specs.Captured.{Scope, Outside, Plain, depth, Entry, Unbound, Word, Words, entry, plains, shares, lam_captured, fix_captured}
-use Rattle.closure_lift.specs.Lifted.{Op, OConst, OApp, OCon, OClos, OCase, Block, RetAtom, LetAtom, Ret, Let, BranchBlocks, BNil, BCons, Fn}
+use Rattle.closure_lift.specs.Lifted.{Op, ClosOp, Block, BranchBlocks, Fn}
+use Rattle.closure_lift.specs.Lifted as lifted
 use Rattle.closure_lift.specs.Lift.{LiftSlot, Holds, Made, atom, closure_for, closure, closures, atoms_of, block_functions, op_functions, numbered, unnumbered, holding, lift_op, lift_block, lift_branches, def_functions, functions_op, functions_block, functions_branches, functions_defs, lift_constants, functions_constants, constants_functions, lift}
 use Rattle.wasm_core.specs.ModuleCondition.{All}
 use Rattle.wasm_emit.specs.EmittedLocals.{top, top_op, top_branches}
@@ -14,46 +15,46 @@ use Rattle.wasm_emit.specs.EmittedBodies.{FewInFunction, FewInBlock, FewLocals}
 -- one local for each operation that is bound, block that is made, and match
 abbrev mutual
   op_locals : Op → ℕ
-  op_locals (OConst x) = 1
-  op_locals (OApp f a) = 1
-  op_locals (OCon c as') = 1
-  op_locals (OClos g as') = 1
-  op_locals (OCase a bs) = 1 + branches_locals bs
+  op_locals (lifted.ConstOp x) = 1
+  op_locals (lifted.AppOp f a) = 1
+  op_locals (lifted.ConOp c as') = 1
+  op_locals (ClosOp g as') = 1
+  op_locals (lifted.CaseOp a bs) = 1 + branches_locals bs
 
   block_locals : Block → ℕ
-  block_locals (RetAtom a) = 0
-  block_locals (LetAtom a t) = 1 + block_locals t
-  block_locals (Ret x) = op_locals x
-  block_locals (Let x t) = op_locals x + block_locals t
+  block_locals (lifted.TailAtom a) = 0
+  block_locals (lifted.BindAtom a t) = 1 + block_locals t
+  block_locals (lifted.Tail x) = op_locals x
+  block_locals (lifted.Bind x t) = op_locals x + block_locals t
 
   branches_locals : BranchBlocks → ℕ
-  branches_locals BNil = 0
-  branches_locals (BCons n t bs) = block_locals t + branches_locals bs
+  branches_locals lifted.NoBranch = 0
+  branches_locals (lifted.Branch n t bs) = block_locals t + branches_locals bs
 
 op_some : (x : Op) → 1 ≤ op_locals x
-op_some (OConst x) = omega arith
-op_some (OApp f a) = omega arith
-op_some (OCon c as') = omega arith
-op_some (OClos g as') = omega arith
-op_some (OCase a bs) = omega arith
+op_some (lifted.ConstOp x) = omega arith
+op_some (lifted.AppOp f a) = omega arith
+op_some (lifted.ConOp c as') = omega arith
+op_some (ClosOp g as') = omega arith
+op_some (lifted.CaseOp a bs) = omega arith
 
 mutual
   op_top : (d : ℕ) (x : Op) → top_op d x ≤ d + op_locals x
-  op_top d (OConst x) = omega arith
-  op_top d (OApp f a) = omega arith
-  op_top d (OCon c as') = omega arith
-  op_top d (OClos g as') = omega arith
-  op_top d (OCase a bs) = omega (arith, branches_top (suc d) bs)
+  op_top d (lifted.ConstOp x) = omega arith
+  op_top d (lifted.AppOp f a) = omega arith
+  op_top d (lifted.ConOp c as') = omega arith
+  op_top d (ClosOp g as') = omega arith
+  op_top d (lifted.CaseOp a bs) = omega (arith, branches_top (suc d) bs)
 
   block_top : (d : ℕ) (t : Block) → top d t ≤ d + block_locals t
-  block_top d (RetAtom a) = omega arith
-  block_top d (LetAtom a t) = omega (arith, block_top (suc d) t)
-  block_top d (Ret x) = op_top d x
-  block_top d (Let x t) = omega (arith, op_top d x, block_top (suc d) t, op_some x)
+  block_top d (lifted.TailAtom a) = omega arith
+  block_top d (lifted.BindAtom a t) = omega (arith, block_top (suc d) t)
+  block_top d (lifted.Tail x) = op_top d x
+  block_top d (lifted.Bind x t) = omega (arith, op_top d x, block_top (suc d) t, op_some x)
 
   branches_top : (d : ℕ) (bs : BranchBlocks) → top_branches d bs ≤ d + branches_locals bs
-  branches_top d BNil = omega arith
-  branches_top d (BCons n t bs) = omega (arith, block_top d t, branches_top d bs)
+  branches_top d lifted.NoBranch = omega arith
+  branches_top d (lifted.Branch n t bs) = omega (arith, block_top d t, branches_top d bs)
 
 abbrev functions_locals : List Fn → ℕ
 functions_locals [] = 0
@@ -149,15 +150,15 @@ mutual
   op_few s gs fr g (CaseOp a bs) = omega (arith, branches_few s gs fr g bs)
 
   block_few : (s : Scope) (gs : List ℕ) (fr : List LiftSlot) (g : ℕ) (t : AnfBlock) → block_locals (lift_block s gs fr g t) + functions_locals (functions_block s gs g t) ≤ normal_locals s t
-  block_few s gs fr g (TailAtom a) = omega (arith, closures_few s gs fr 0 (a ∷ []) (λ fr'. RetAtom (atom s fr' a)) (λ fr'. omega arith))
+  block_few s gs fr g (TailAtom a) = omega (arith, closures_few s gs fr 0 (a ∷ []) (λ fr'. lifted.TailAtom (atom s fr' a)) (λ fr'. omega arith))
   block_few s gs fr g (Tail op) =
       let n = normal_op_locals s op - functions_locals (functions_op s gs g op) - atoms_locals s (atoms_of op) in
-      let r = closures_few s gs fr n (atoms_of op) (λ fr'. Ret (lift_op s gs fr' g op)) (λ fr'. omega (arith, op_few s gs fr' g op)) in
+      let r = closures_few s gs fr n (atoms_of op) (λ fr'. lifted.Tail (lift_op s gs fr' g op)) (λ fr'. omega (arith, op_few s gs fr' g op)) in
       omega (arith, r, op_few s gs fr g op)
   block_few s gs fr g (BindAtom a t) =
       let next = λ (fr' : List LiftSlot). lift_block (Plain s) (0 ∷ gs) (Holds (depth s) ∷ fr') g t in
       let n = 1 + normal_locals (Plain s) t - functions_locals (functions_block (Plain s) (0 ∷ gs) g t) in
-      let r = closures_few s gs fr n (a ∷ []) (λ fr'. LetAtom (atom s fr' a) (next fr')) (λ fr'. omega (arith, block_few (Plain s) (0 ∷ gs) (Holds (depth s) ∷ fr') g t)) in
+      let r = closures_few s gs fr n (a ∷ []) (λ fr'. lifted.BindAtom (atom s fr' a) (next fr')) (λ fr'. omega (arith, block_few (Plain s) (0 ∷ gs) (Holds (depth s) ∷ fr') g t)) in
       omega (arith, r, block_few (Plain s) (0 ∷ gs) (Holds (depth s) ∷ fr) g t)
   block_few s gs fr g (Bind op t) =
       let g' = g + op_functions op in
@@ -165,7 +166,7 @@ mutual
       let first = functions_locals (functions_op s gs g op) in
       let second = functions_locals (functions_block (Plain s) (0 ∷ gs) g' t) in
       let n = normal_op_locals s op + normal_locals (Plain s) t - first - second - atoms_locals s (atoms_of op) in
-      let r = closures_few s gs fr n (atoms_of op) (λ fr'. Let (lift_op s gs fr' g op) (next fr')) (λ fr'. omega (arith, op_few s gs fr' g op, block_few (Plain s) (0 ∷ gs) (Holds (depth s) ∷ fr') g' t)) in
+      let r = closures_few s gs fr n (atoms_of op) (λ fr'. lifted.Bind (lift_op s gs fr' g op) (next fr')) (λ fr'. omega (arith, op_few s gs fr' g op, block_few (Plain s) (0 ∷ gs) (Holds (depth s) ∷ fr') g' t)) in
       omega (arith, r, op_few s gs fr g op, block_few (Plain s) (0 ∷ gs) (Holds (depth s) ∷ fr) g' t, functions_join (functions_op s gs g op) (functions_block (Plain s) (0 ∷ gs) g' t))
 
   branches_few : (s : Scope) (gs : List ℕ) (fr : List LiftSlot) (g : ℕ) (bs : AnfBranches) → branches_locals (lift_branches s gs fr g bs) + functions_locals (functions_branches s gs g bs) ≤ normal_branches_locals s bs

@@ -21,7 +21,7 @@ use Rattle.wasm_emit.specs.EmitLaws.{Spent}
 use Rattle.known_calls.specs.KnownLaws.{FinishedWithin}
 use Rattle.wasm_emit.proofs.Answering.{longer}
 use Rattle.known_calls.proofs.KnownSpelling.{known_spelled}
-use Rattle.back_end.specs.BackEnd.{passed, deepest, IsWithinPasses, ModulesAnswer, ModulesAreValid, ModulesCanBeSpelled}
+use Rattle.back_end.specs.BackEnd.{passed, IsWithinPasses, ModulesAnswer, ModulesAreValid, ModulesCanBeSpelled}
 use Rattle.back_end.proofs.Composition.{back_end, back_end_valid}
 use Rattle.back_end.proofs.Whole.{families, product_le}
 
@@ -29,7 +29,7 @@ pub suffices : (P : BoxProgram) (m : ℕ) → IsWithinPasses P m → CanBeConver
 suffices P m ok =
     let S = shrunk_program P in
     let form = shrunk_forms P ok.form in
-    let shallow = shrunk_shallow P ok.form deepest ok.constants ok.main in
+    let shallow = shrunk_shallow P ok.form depth_limit ok.constants ok.main in
     let few : ConstructorsWithin S m = subst (λ (Fs : List BoxFamily). (F : BoxFamily) → Has Fs F → length F.args ≤ m) (sym form.families) (families P.families m ok.constructors) in
     shallow_suffices S form.form form.ordinary (all_shallow S.constants shallow.0) shallow.1 m few
 

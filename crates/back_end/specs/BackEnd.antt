@@ -1,6 +1,6 @@
 -- From all programs after erasure, and their evaluation by substitution, to runs of modules, through all passes.
 use Rattle.std.specs.Prelude.{◌≡◌, ℕ, ◌+◌, ◌*◌, ◌<◌, ◌≤◌, length, Some}
-use Rattle.trees.specs.Measures.{depth}
+use Rattle.trees.specs.Measures.{depth, depth_limit}
 use Rattle.box_terms.specs.BoxSyntax.{BoxTerm}
 use Rattle.lambda_box.specs.BoxProgram.{BoxConstant, BoxFamily, BoxProgram, Has}
 use Rattle.lambda_box.specs.BoxForm.{IsBoxProgram}
@@ -29,16 +29,12 @@ use Rattle.known_calls.specs.KnownLaws.{FinishedWithin}
 abbrev pub passed : BoxProgram → Program
 passed P = lift (to_anf (shrunk_program P))
 
--- the greatest depth of a term
-abbrev pub deepest : ℕ
-deepest = 2048
-
 -- a program of the form, where no family has over m constructors, within the limits: of depth after saturation, of captured words, and of functions
 pub record IsWithinPasses (P : BoxProgram) (m : ℕ) : Type 0 where
   pub form : IsBoxProgram P
   pub constructors : (F : BoxFamily) → Has P.families F → length F.args ≤ m
-  pub constants : (d : BoxConstant) → Has (saturated_program P).constants d → depth d.body ≤ deepest
-  pub main : depth (saturated_program P).main ≤ deepest
+  pub constants : (d : BoxConstant) → Has (saturated_program P).constants d → depth d.body ≤ depth_limit
+  pub main : depth (saturated_program P).main ≤ depth_limit
   pub limits : Limits (passed P)
 
 -- each run of the module, of an evaluation with n nodes that gives these nodes of data: its number of steps is bounded, and it goes on, where at most one frame more waits than the call depth of the

@@ -3,6 +3,7 @@ ghost use Rattle.std.specs.Prelude.{◌≡◌, ◌+◌, IfOk};
 ghost use Rattle.universe_levels.specs.Consistency.{IsSortOver};
 ghost use Rattle.calculus_rules.specs.Context.{extend};
 ghost use Rattle.pc_rules.specs.WellCounted.{IsCounted, AreCounted};
+ghost use Rattle.pc_rules.specs.DirectedRun.{most_nested};
 ghost use Rattle.type_infer.specs.Ready.{IsReady};
 ghost use Rattle.type_cert.specs.Retraces.{Retraces, stand};
 ghost use Rattle.block_cert.specs.BlockWalks.{argument_walk, arguments_walk};
@@ -31,7 +32,7 @@ fn argument<G: Guarder>(
     ty: &Term,
     trail: &mut Trail,
 ) -> Result<Sort, WalkHalt>
-    requires nest { walk.now.verifier.room + trail.old.meter.nest ≡ 2048 }
+    requires nest { walk.now.verifier.room + trail.old.meter.nest ≡ most_nested }
     requires ready { IsReady walk.now.verifier.env.now ctx.now }
     requires family { IsSortOver walk.now.verifier.env.now.levels family.now }
     ensures retraces { Retraces (argument_walk walk.now.verifier family.now ctx.now ty.now (stand trail.old)) result trail.old trail.new }
@@ -51,7 +52,7 @@ pub(crate) fn arguments<G: Guarder>(
     args: &Telescope,
     trail: &mut Trail,
 ) -> Result<Sorts, WalkHalt>
-    requires nest { walk.now.verifier.room + trail.old.meter.nest ≡ 2048 }
+    requires nest { walk.now.verifier.room + trail.old.meter.nest ≡ most_nested }
     requires ready { IsReady walk.now.verifier.env.now ctx.old }
     requires family { IsSortOver walk.now.verifier.env.now.levels family.now }
     ensures retraces { Retraces (arguments_walk walk.now.verifier family.now ctx.old args.now (stand trail.old)) result trail.old trail.new }

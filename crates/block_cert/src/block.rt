@@ -2,6 +2,7 @@
 ghost use Rattle.std.specs.Prelude.{◌≡◌, ◌+◌, [], IfOk};
 ghost use Rattle.dump_reader.specs.declared.declaration.RawDecl.TheVariants.{Block as RawBlock};
 ghost use Rattle.pc_rules.specs.Lookup.{IsNew};
+ghost use Rattle.pc_rules.specs.DirectedRun.{most_nested};
 ghost use Rattle.rule_laws.specs.Declarations.{BlockFormed, IsCheckedBlock};
 ghost use Rattle.type_infer.specs.Ready.{IsReady};
 ghost use Rattle.inductive_check.specs.Given.{IsRawBlock, block_of, block_from};
@@ -34,7 +35,7 @@ fn walk_parts<G: Guarder>(
     raw: &RawDecl,
     trail: &mut Trail,
 ) -> Result<Block, WalkHalt>
-    requires nest { walk.now.verifier.room + trail.old.meter.nest ≡ 2048 }
+    requires nest { walk.now.verifier.room + trail.old.meter.nest ≡ most_nested }
     requires ready { IsReady walk.now.verifier.env.now [] }
     requires new { IsNew walk.now.verifier.env.now name }
     requires parts { raw.now ≡ RawBlock name params.now listed.now }
@@ -75,7 +76,7 @@ pub fn walk_block<G: Guarder>(
     raw: &RawDecl,
     trail: &mut Trail,
 ) -> Result<Block, WalkHalt>
-    requires nest { walk.now.verifier.room + trail.old.meter.nest ≡ 2048 }
+    requires nest { walk.now.verifier.room + trail.old.meter.nest ≡ most_nested }
     requires ready { IsReady walk.now.verifier.env.now [] }
     requires block { IsRawBlock raw.now }
     requires new { IsNew walk.now.verifier.env.now (block_of raw.now).name }

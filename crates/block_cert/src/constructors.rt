@@ -6,6 +6,7 @@ ghost use Rattle.calculus_rules.specs.Context.{extend};
 ghost use Rattle.calculus_rules.specs.Environment.{head_of};
 ghost use Rattle.pc_rules.specs.Follows.{IsAfter};
 ghost use Rattle.pc_rules.specs.WellCounted.{AreCounted, AreCountedFamilies};
+ghost use Rattle.pc_rules.specs.DirectedRun.{most_nested};
 ghost use Rattle.rule_laws.specs.Declarations.{ConstructorsFormed, FamiliesFormed};
 ghost use Rattle.type_infer.specs.Ready.{IsReady};
 ghost use Rattle.inductive_check.specs.Given.{ctor_of, family_of};
@@ -36,7 +37,7 @@ fn constructor<G: Guarder>(
     ctor: &RawCtor,
     trail: &mut Trail,
 ) -> Result<Constructor, WalkHalt>
-    requires nest { walk.now.verifier.room + trail.old.meter.nest ≡ 2048 }
+    requires nest { walk.now.verifier.room + trail.old.meter.nest ≡ most_nested }
     requires ready { IsReady walk.now.verifier.env.now ctx.now }
     requires sort { IsSortOver walk.now.verifier.env.now.levels family.now.sort }
     ensures retraces { (B : Block) → extend [] B.params ≡ ctx.now → Retraces (ctor_walk walk.now.verifier B (family_of family.now) (ctor_of ctor.now) (stand trail.old)) result trail.old trail.new }
@@ -60,7 +61,7 @@ fn constructors<G: Guarder>(
     family: &RawFamily,
     trail: &mut Trail,
 ) -> Result<Constructors, WalkHalt>
-    requires nest { walk.now.verifier.room + trail.old.meter.nest ≡ 2048 }
+    requires nest { walk.now.verifier.room + trail.old.meter.nest ≡ most_nested }
     requires ready { IsReady walk.now.verifier.env.now ctx.now }
     requires sort { IsSortOver walk.now.verifier.env.now.levels family.now.sort }
     ensures retraces { (B : Block) → extend [] B.params ≡ ctx.now → Retraces (family_walk walk.now.verifier B (family_of family.now) (stand trail.old)) result trail.old trail.new }
@@ -85,7 +86,7 @@ pub(crate) fn families<G: Guarder>(
     families: &RawFamilies,
     trail: &mut Trail,
 ) -> Result<Families, WalkHalt>
-    requires nest { walk.now.verifier.room + trail.old.meter.nest ≡ 2048 }
+    requires nest { walk.now.verifier.room + trail.old.meter.nest ≡ most_nested }
     requires ready { IsReady walk.now.verifier.env.now ctx.now }
     requires heads { AreCountedFamilies walk.now.verifier.env.now (map head_of (map family_of families.now)) }
     ensures retraces { (B : Block) → extend [] B.params ≡ ctx.now → Retraces (families_walk walk.now.verifier B (map family_of families.now) (stand trail.old)) result trail.old trail.new }

@@ -6,6 +6,7 @@ ghost use Rattle.calculus_rules.specs.Context.{extend};
 ghost use Rattle.calculus_rules.specs.Environment.{head_of};
 ghost use Rattle.pc_rules.specs.Follows.{IsAfter};
 ghost use Rattle.pc_rules.specs.WellCounted.{AreCounted, AreCountedFamilies};
+ghost use Rattle.pc_rules.specs.DirectedRun.{most_nested};
 ghost use Rattle.type_infer.specs.Ready.{IsReady};
 ghost use Rattle.inductive_check.specs.Given.{family_of, block_from};
 ghost use Rattle.type_cert.specs.Retraces.{Retraces, stand, passed_with};
@@ -32,7 +33,7 @@ fn head<G: Guarder>(
     family: &RawFamily,
     trail: &mut Trail,
 ) -> Result<(), WalkHalt>
-    requires nest { walk.now.verifier.room + trail.old.meter.nest ≡ 2048 }
+    requires nest { walk.now.verifier.room + trail.old.meter.nest ≡ most_nested }
     requires ready { IsReady walk.now.verifier.env.now ctx.now }
     ensures retraces { (B : Block) → extend [] B.params ≡ ctx.now → Retraces (head_walk walk.now.verifier B (family_of family.now) (stand trail.old)) result trail.old trail.new }
     ensures after { IsAfter trail.old.meter trail.new.meter }
@@ -54,7 +55,7 @@ fn heads<G: Guarder>(
     families: &RawFamilies,
     trail: &mut Trail,
 ) -> Result<(), WalkHalt>
-    requires nest { walk.now.verifier.room + trail.old.meter.nest ≡ 2048 }
+    requires nest { walk.now.verifier.room + trail.old.meter.nest ≡ most_nested }
     requires ready { IsReady walk.now.verifier.env.now ctx.now }
     ensures retraces { (B : Block) → extend [] B.params ≡ ctx.now → Retraces (heads_walk walk.now.verifier B (map family_of families.now) (stand trail.old)) result trail.old trail.new }
     ensures after { IsAfter trail.old.meter trail.new.meter }
@@ -77,7 +78,7 @@ pub(crate) fn block_heads<G: Guarder>(
     families: &RawFamilies,
     trail: &mut Trail,
 ) -> Result<Ctx, WalkHalt>
-    requires nest { walk.now.verifier.room + trail.old.meter.nest ≡ 2048 }
+    requires nest { walk.now.verifier.room + trail.old.meter.nest ≡ most_nested }
     requires ready { IsReady walk.now.verifier.env.now [] }
     ensures retraces { (k : Name) → Retraces (block_heads_walk walk.now.verifier (block_from k params.now families.now) (stand trail.old)) (passed_with result) trail.old trail.new }
     ensures after { IsAfter trail.old.meter trail.new.meter }

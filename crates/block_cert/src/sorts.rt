@@ -2,6 +2,7 @@
 ghost use Rattle.std.specs.Prelude.{◌≡◌, ◌+◌, IfOk};
 ghost use Rattle.universe_levels.specs.Consistency.{IsSortOver};
 ghost use Rattle.pc_rules.specs.WellCounted.{IsCounted};
+ghost use Rattle.pc_rules.specs.DirectedRun.{most_nested};
 ghost use Rattle.type_infer.specs.Ready.{IsReady};
 ghost use Rattle.type_cert.specs.Retraces.{Retraces, stand};
 ghost use Rattle.type_cert.specs.Going.{sorting};
@@ -23,7 +24,7 @@ pub(crate) fn sort_of<G: Guarder>(
     t: &Term,
     trail: &mut Trail,
 ) -> Result<Sort, WalkHalt>
-    requires nest { walk.now.verifier.room + trail.old.meter.nest ≡ 2048 }
+    requires nest { walk.now.verifier.room + trail.old.meter.nest ≡ most_nested }
     requires ready { IsReady walk.now.verifier.env.now ctx.now }
     ensures retraces { Retraces (sorting walk.now.verifier ctx.now t.now (stand trail.old)) result trail.old trail.new }
     ensures counted { IfOk result (λ _. IsCounted walk.now.verifier.env.now t.now) }

@@ -3,6 +3,7 @@ ghost use Rattle.std.specs.Prelude.{◌≡◌, ◌+◌, IfOk};
 ghost use Rattle.universe_levels.specs.Consistency.{IsSortOver};
 ghost use Rattle.calculus_rules.specs.Context.{extend};
 ghost use Rattle.pc_rules.specs.WellCounted.{IsCounted};
+ghost use Rattle.pc_rules.specs.DirectedRun.{most_nested};
 ghost use Rattle.type_infer.specs.Ready.{IsReady};
 ghost use Rattle.script_making.specs.Makes.{Makes};
 ghost use Rattle.block_making.specs.BlockMaking.{argument_making, arguments_making};
@@ -36,7 +37,7 @@ fn argument<R: Reducer, G: Guarder>(
     ty: &Term,
     draft: &mut Draft,
 ) -> Result<Sort, Halt>
-    requires nest { typer.now.maker.room + draft.old.meter.nest ≡ 2048 }
+    requires nest { typer.now.maker.room + draft.old.meter.nest ≡ most_nested }
     requires ready { IsReady typer.now.maker.env.now ctx.now }
     requires family { IsSortOver typer.now.maker.env.now.levels family.now }
     ensures makes { Makes (argument_making typer.now.maker.env.now typer.now.maker.room block at.family at.ctor family.now ctx.now ty.now draft.old.meter.account) result draft.old draft.new }
@@ -60,7 +61,7 @@ pub(crate) fn arguments<R: Reducer, G: Guarder>(
     args: &Telescope,
     draft: &mut Draft,
 ) -> Result<Sorts, Halt>
-    requires nest { typer.now.maker.room + draft.old.meter.nest ≡ 2048 }
+    requires nest { typer.now.maker.room + draft.old.meter.nest ≡ most_nested }
     requires ready { IsReady typer.now.maker.env.now ctx.old }
     requires family { IsSortOver typer.now.maker.env.now.levels family.now }
     ensures makes { Makes (arguments_making typer.now.maker.env.now typer.now.maker.room block at.family at.ctor family.now ctx.old args.now draft.old.meter.account) result draft.old draft.new }

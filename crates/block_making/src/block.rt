@@ -1,6 +1,7 @@
 //! A block that is read.
 ghost use Rattle.std.specs.Prelude.{◌≡◌, ◌+◌, []};
 ghost use Rattle.pc_rules.specs.Lookup.{IsNew};
+ghost use Rattle.pc_rules.specs.DirectedRun.{most_nested};
 ghost use Rattle.type_infer.specs.Ready.{IsReady};
 ghost use Rattle.inductive_check.specs.Given.{IsRawBlock, block_of, block_from};
 ghost use Rattle.script_making.specs.Makes.{Makes};
@@ -31,7 +32,7 @@ fn make_parts<R: Reducer, G: Guarder>(
     listed: &RawFamilies,
     draft: &mut Draft,
 ) -> Result<Block, Halt>
-    requires nest { typer.now.maker.room + draft.old.meter.nest ≡ 2048 }
+    requires nest { typer.now.maker.room + draft.old.meter.nest ≡ most_nested }
     requires ready { IsReady typer.now.maker.env.now [] }
     requires new { IsNew typer.now.maker.env.now name }
     ensures makes { Makes (block_making typer.now.maker.env.now typer.now.maker.room (block_from name params.now listed.now) draft.old.meter.account) result draft.old draft.new }
@@ -70,7 +71,7 @@ pub fn make_block<R: Reducer, G: Guarder>(
     raw: &RawDecl,
     draft: &mut Draft,
 ) -> Result<Block, Halt>
-    requires nest { typer.now.maker.room + draft.old.meter.nest ≡ 2048 }
+    requires nest { typer.now.maker.room + draft.old.meter.nest ≡ most_nested }
     requires ready { IsReady typer.now.maker.env.now [] }
     requires block { IsRawBlock raw.now }
     requires new { IsNew typer.now.maker.env.now (block_of raw.now).name }

@@ -4,6 +4,7 @@ ghost use Rattle.universe_levels.specs.Consistency.{IsSortOver};
 ghost use Rattle.calculus_rules.specs.Environment.{head_of};
 ghost use Rattle.pc_rules.specs.Follows.{IsAfter};
 ghost use Rattle.pc_rules.specs.WellCounted.{AreCountedFamilies};
+ghost use Rattle.pc_rules.specs.DirectedRun.{most_nested};
 ghost use Rattle.type_infer.specs.Ready.{IsReady};
 ghost use Rattle.inductive_check.specs.Given.{ctor_of, family_of};
 ghost use Rattle.block_making.specs.BlockMakes.{MakesCtor, MakesCtors, MakesFamilies};
@@ -38,7 +39,7 @@ fn constructor<R: Reducer, G: Guarder>(
     ctor: &RawCtor,
     draft: &mut Draft,
 ) -> Result<Constructor, Halt>
-    requires nest { typer.now.maker.room + draft.old.meter.nest ≡ 2048 }
+    requires nest { typer.now.maker.room + draft.old.meter.nest ≡ most_nested }
     requires ready { IsReady typer.now.maker.env.now ctx.now }
     requires sort { IsSortOver typer.now.maker.env.now.levels family.now.sort }
     ensures makes { MakesCtor typer.now.maker.env.now typer.now.maker.room ctx.now block (family_of family.now) at.family at.ctor (ctor_of ctor.now) result draft.old draft.new }
@@ -73,7 +74,7 @@ fn constructors<R: Reducer, G: Guarder>(
     family: &RawFamily,
     draft: &mut Draft,
 ) -> Result<Constructors, Halt>
-    requires nest { typer.now.maker.room + draft.old.meter.nest ≡ 2048 }
+    requires nest { typer.now.maker.room + draft.old.meter.nest ≡ most_nested }
     requires ready { IsReady typer.now.maker.env.now ctx.now }
     requires sort { IsSortOver typer.now.maker.env.now.levels family.now.sort }
     ensures makes { MakesCtors typer.now.maker.env.now typer.now.maker.room ctx.now block (family_of family.now) place result draft.old draft.new }
@@ -102,7 +103,7 @@ pub(crate) fn families<R: Reducer, G: Guarder>(
     families: &RawFamilies,
     draft: &mut Draft,
 ) -> Result<Families, Halt>
-    requires nest { typer.now.maker.room + draft.old.meter.nest ≡ 2048 }
+    requires nest { typer.now.maker.room + draft.old.meter.nest ≡ most_nested }
     requires ready { IsReady typer.now.maker.env.now ctx.now }
     requires heads { AreCountedFamilies typer.now.maker.env.now (map head_of (map family_of families.now)) }
     ensures makes { MakesFamilies typer.now.maker.env.now typer.now.maker.room ctx.now block (map family_of families.now) result draft.old draft.new }

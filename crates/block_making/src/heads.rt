@@ -4,6 +4,7 @@ ghost use Rattle.calculus_rules.specs.Context.{extend};
 ghost use Rattle.calculus_rules.specs.Environment.{head_of};
 ghost use Rattle.pc_rules.specs.Follows.{IsAfter};
 ghost use Rattle.pc_rules.specs.WellCounted.{AreCounted, AreCountedFamilies};
+ghost use Rattle.pc_rules.specs.DirectedRun.{most_nested};
 ghost use Rattle.type_infer.specs.Ready.{IsReady, done_with};
 ghost use Rattle.inductive_check.specs.Given.{family_of};
 ghost use Rattle.block_making.specs.BlockMakes.{MakesHead, MakesHeads, MakesBlockHeads};
@@ -30,7 +31,7 @@ fn head<R: Reducer, G: Guarder>(
     family: &RawFamily,
     draft: &mut Draft,
 ) -> Result<(), Halt>
-    requires nest { typer.now.maker.room + draft.old.meter.nest ≡ 2048 }
+    requires nest { typer.now.maker.room + draft.old.meter.nest ≡ most_nested }
     requires ready { IsReady typer.now.maker.env.now ctx.now }
     ensures makes { MakesHead typer.now.maker.env.now typer.now.maker.room ctx.now (family_of family.now) result draft.old draft.new }
     ensures after { IsAfter draft.old.meter draft.new.meter }
@@ -51,7 +52,7 @@ fn heads<R: Reducer, G: Guarder>(
     families: &RawFamilies,
     draft: &mut Draft,
 ) -> Result<(), Halt>
-    requires nest { typer.now.maker.room + draft.old.meter.nest ≡ 2048 }
+    requires nest { typer.now.maker.room + draft.old.meter.nest ≡ most_nested }
     requires ready { IsReady typer.now.maker.env.now ctx.now }
     ensures makes { MakesHeads typer.now.maker.env.now typer.now.maker.room ctx.now (map family_of families.now) result draft.old draft.new }
     ensures after { IsAfter draft.old.meter draft.new.meter }
@@ -74,7 +75,7 @@ pub(crate) fn block_heads<R: Reducer, G: Guarder>(
     families: &RawFamilies,
     draft: &mut Draft,
 ) -> Result<Ctx, Halt>
-    requires nest { typer.now.maker.room + draft.old.meter.nest ≡ 2048 }
+    requires nest { typer.now.maker.room + draft.old.meter.nest ≡ most_nested }
     requires ready { IsReady typer.now.maker.env.now [] }
     ensures makes { MakesBlockHeads typer.now.maker.env.now typer.now.maker.room params.now families.now (done_with result) draft.old draft.new }
     ensures after { IsAfter draft.old.meter draft.new.meter }

@@ -2,6 +2,7 @@
 ghost use Rattle.std.specs.Prelude.{◌≡◌, ◌+◌, IfOk};
 ghost use Rattle.universe_levels.specs.Consistency.{IsSortOver};
 ghost use Rattle.pc_rules.specs.WellCounted.{IsCounted};
+ghost use Rattle.pc_rules.specs.DirectedRun.{most_nested};
 ghost use Rattle.type_infer.specs.Ready.{IsReady};
 ghost use Rattle.script_making.specs.Makes.{Makes};
 ghost use Rattle.type_making.specs.Making.{sort_making};
@@ -24,7 +25,7 @@ pub(crate) fn sort_of<R: Reducer, G: Guarder>(
     t: &Term,
     draft: &mut Draft,
 ) -> Result<Sort, Halt>
-    requires nest { typer.now.maker.room + draft.old.meter.nest ≡ 2048 }
+    requires nest { typer.now.maker.room + draft.old.meter.nest ≡ most_nested }
     requires ready { IsReady typer.now.maker.env.now ctx.now }
     ensures makes { Makes (sort_making typer.now.maker.env.now typer.now.maker.room ctx.now t.now draft.old.meter.account) result draft.old draft.new }
     ensures counted { IfOk result (λ _. IsCounted typer.now.maker.env.now t.now) }

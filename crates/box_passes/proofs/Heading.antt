@@ -2,7 +2,7 @@
 use Rattle.std.proofs.Common.{◌≡◌, ◌≤◌, ◌<◌, ◌+◌, ◌-◌, ℕ, zero, suc, Bool, true, false, List, [], ◌∷◌, ◌++◌, length, map, reverse, drop, get_or, Option, Some, None, refl, sym, ap, ◌∙◌, subst as along, arith}
 use Rattle.std.specs.Prelude.{nat_le, if◌then◌else◌, slice_get}
 use Rattle.trees.specs.Tree.{Rel, Done, Next}
-use Rattle.trees.specs.Measures.{depth, depth_trees}
+use Rattle.trees.specs.Measures.{depth, depth_trees, depth_limit}
 use Rattle.pc_terms.specs.declared.leaf.FamilyId.{FamilyId}
 use Rattle.box_terms.specs.BoxSyntax.{BoxTerm, BoxTerms, Box, BLambda, BLetIn, BApp, BConst, BConstruct, BCase, BFix}
 use Rattle.box_terms.specs.BoxLists.{arms_of, bodies_of, rargs_of, depth_defs}
@@ -16,7 +16,7 @@ use Rattle.box_passes.specs.Maps.{map_branch, map_def, AreDeep, AreShallow, deep
 use Rattle.box_passes.specs.PassResults.{IsDeep, deep_main, deep_constant}
 use Rattle.std.proofs.lemmas.List.{reverse-append}
 use Rattle.box_passes.proofs.Maps.{rargs_map, length_map}
-use Rattle.trees.proofs.Lists.{has_map}
+use Rattle.trees.proofs.Lists.{has_map, has_turned}
 
 drop_none : {A : Type 0} (n : ℕ) → drop {A = A} n [] ≡ []
 drop_none zero = refl
@@ -107,37 +107,37 @@ depth_applied : (k : ℕ) (g a : BoxTerm) → depth g ≤ depth (applied k g a)
 depth_applied zero g a = omega arith
 depth_applied (suc k) g a = omega arith
 
-pub app_deep : (Fs : List BoxFamily) (n : ℕ) (f a : BoxTerm) → 2048 < depth (head Fs f (n + 1)) → 2048 < depth (head Fs (BApp f a) n)
+pub app_deep : (Fs : List BoxFamily) (n : ℕ) (f a : BoxTerm) → depth_limit < depth (head Fs f (n + 1)) → depth_limit < depth (head Fs (BApp f a) n)
 app_deep Fs n f a h = omega (arith, h, depth_applied (spare Fs f (n + 1)) (head Fs f (n + 1)) (head Fs a 0))
 
-pub arg_deep : (Fs : List BoxFamily) (n : ℕ) (f a : BoxTerm) → 0 ≡ spare Fs f (n + 1) → 2048 < depth (head Fs a 0) → 2048 < depth (head Fs (BApp f a) n)
-arg_deep Fs n f a s h = along (λ k. 2048 < depth (applied k (head Fs f (n + 1)) (head Fs a 0))) s (omega (arith, h))
+pub arg_deep : (Fs : List BoxFamily) (n : ℕ) (f a : BoxTerm) → 0 ≡ spare Fs f (n + 1) → depth_limit < depth (head Fs a 0) → depth_limit < depth (head Fs (BApp f a) n)
+arg_deep Fs n f a s h = along (λ k. depth_limit < depth (applied k (head Fs f (n + 1)) (head Fs a 0))) s (omega (arith, h))
 
-pub scrut_deep : (Fs : List BoxFamily) (n : ℕ) (f : FamilyId) (s : BoxTerm) (bs : BoxTerms) → 2048 < depth (head Fs s 0) → 2048 < depth (head Fs (BCase f s bs) n)
+pub scrut_deep : (Fs : List BoxFamily) (n : ℕ) (f : FamilyId) (s : BoxTerm) (bs : BoxTerms) → depth_limit < depth (head Fs s 0) → depth_limit < depth (head Fs (BCase f s bs) n)
 scrut_deep Fs n f s bs h = omega (arith, h)
 
-pub branches_deep : (Fs : List BoxFamily) (n : ℕ) (f : FamilyId) (s : BoxTerm) (bs : List BoxBranch) → 2048 < depth_trees (arms_of (map (map_branch (λ t. head Fs t 0)) bs)) →
-    2048 < depth (head Fs (BCase f s (arms_of bs)) n)
-branches_deep Fs n f s bs h = let g = along (λ ts. 2048 < depth_trees ts) (sym (arms_heads Fs bs)) h in omega (arith, g)
+pub branches_deep : (Fs : List BoxFamily) (n : ℕ) (f : FamilyId) (s : BoxTerm) (bs : List BoxBranch) → depth_limit < depth_trees (arms_of (map (map_branch (λ t. head Fs t 0)) bs)) →
+    depth_limit < depth (head Fs (BCase f s (arms_of bs)) n)
+branches_deep Fs n f s bs h = let g = along (λ ts. depth_limit < depth_trees ts) (sym (arms_heads Fs bs)) h in omega (arith, g)
 
-pub defs_deep : (Fs : List BoxFamily) (n : ℕ) (ds : List BoxDef) (i : ℕ) → 2048 < depth_defs (map (map_def (λ t. head Fs t 0)) ds) →
-    2048 < depth (head Fs (BFix i (rargs_of ds) (bodies_of (length ds) ds)) n)
+pub defs_deep : (Fs : List BoxFamily) (n : ℕ) (ds : List BoxDef) (i : ℕ) → depth_limit < depth_defs (map (map_def (λ t. head Fs t 0)) ds) →
+    depth_limit < depth (head Fs (BFix i (rargs_of ds) (bodies_of (length ds) ds)) n)
 defs_deep Fs n ds i h =
-    let g = along (λ m. 2048 < depth_trees (bodies_of m (map (map_def (λ t. head Fs t 0)) ds))) (length_map (λ t. head Fs t 0) ds) h in
-    let k = along (λ ts. 2048 < depth_trees ts) (sym (bodies_heads Fs (length ds) ds)) g in
+    let g = along (λ m. depth_limit < depth_trees (bodies_of m (map (map_def (λ t. head Fs t 0)) ds))) (length_map (λ t. head Fs t 0) ds) h in
+    let k = along (λ ts. depth_limit < depth_trees ts) (sym (bodies_heads Fs (length ds) ds)) g in
     omega (arith, k)
 
-pub arm_deep : (f : BoxBranch → BoxBranch) (bs : List BoxBranch) (i : ℕ) (b : BoxBranch) → i < length bs → b ≡ get_or bs i b → 2048 < depth (f b).body → 2048 < depth_trees (arms_of (map f bs))
+pub arm_deep : (f : BoxBranch → BoxBranch) (bs : List BoxBranch) (i : ℕ) (b : BoxBranch) → i < length bs → b ≡ get_or bs i b → depth_limit < depth (f b).body → depth_limit < depth_trees (arms_of (map f bs))
 arm_deep f [] i b l e h = absurd (omega arith)
-arm_deep f (x ∷ bs) zero b l e h = let g = along (λ (y : BoxBranch). 2048 < depth (f y).body) e h in omega (arith, g)
+arm_deep f (x ∷ bs) zero b l e h = let g = along (λ (y : BoxBranch). depth_limit < depth (f y).body) e h in omega (arith, g)
 arm_deep f (x ∷ bs) (suc i) b l e h = omega (arith, arm_deep f bs i b (omega arith) e h)
 
-body_deep : (f : BoxDef → BoxDef) (m : ℕ) (ds : List BoxDef) (i : ℕ) (d : BoxDef) → i < length ds → d ≡ get_or ds i d → 2048 < depth (f d).body → 2048 < depth_trees (bodies_of m (map f ds))
+body_deep : (f : BoxDef → BoxDef) (m : ℕ) (ds : List BoxDef) (i : ℕ) (d : BoxDef) → i < length ds → d ≡ get_or ds i d → depth_limit < depth (f d).body → depth_limit < depth_trees (bodies_of m (map f ds))
 body_deep f m [] i d l e h = absurd (omega arith)
-body_deep f m (x ∷ ds) zero d l e h = let g = along (λ (y : BoxDef). 2048 < depth (f y).body) e h in omega (arith, g)
+body_deep f m (x ∷ ds) zero d l e h = let g = along (λ (y : BoxDef). depth_limit < depth (f y).body) e h in omega (arith, g)
 body_deep f m (x ∷ ds) (suc i) d l e h = omega (arith, body_deep f m ds i d (omega arith) e h)
 
-pub def_deep : (f : BoxDef → BoxDef) (ds : List BoxDef) (i : ℕ) (d : BoxDef) → i < length ds → d ≡ get_or ds i d → 2048 < depth (f d).body → 2048 < depth_defs (map f ds)
+pub def_deep : (f : BoxDef → BoxDef) (ds : List BoxDef) (i : ℕ) (d : BoxDef) → i < length ds → d ≡ get_or ds i d → depth_limit < depth (f d).body → depth_limit < depth_defs (map f ds)
 def_deep f ds i d l e h = body_deep f (length (map f ds)) ds i d l e h
 
 -- a constructor as a function
@@ -162,40 +162,28 @@ pub depth_lambdas : (n : ℕ) (t : BoxTerm) → depth t ≤ depth (lambdas n t)
 depth_lambdas zero t = omega arith
 depth_lambdas (suc n) t = omega (arith, depth_lambdas n t)
 
-pub function_deep : (p n i : ℕ) (f : FamilyId) (c : ℕ) (t : BoxTerm) → box_apply t (innermost i) ≡ box_apply (BConstruct f c) (innermost n) → 2048 < depth t → 2048 < depth (constructor_function p n f c)
+pub function_deep : (p n i : ℕ) (f : FamilyId) (c : ℕ) (t : BoxTerm) → box_apply t (innermost i) ≡ box_apply (BConstruct f c) (innermost n) → depth_limit < depth t → depth_limit < depth (constructor_function p n f c)
 function_deep p n i f c t e h =
     let a = along (λ u. depth t ≤ depth u) e (depth_apply t (innermost i)) in
     omega (arith, h, a, depth_lambdas (p + n) (box_apply (BConstruct f c) (innermost n)))
 
-pub lambdas_deep : (n : ℕ) (t u : BoxTerm) → lambdas n t ≡ u → 2048 < depth t → 2048 < depth u
-lambdas_deep n t u e h = along (λ u. 2048 < depth u) e (omega (arith, h, depth_lambdas n t))
+pub lambdas_deep : (n : ℕ) (t u : BoxTerm) → lambdas n t ≡ u → depth_limit < depth t → depth_limit < depth u
+lambdas_deep n t u e h = along (λ u. depth_limit < depth u) e (omega (arith, h, depth_lambdas n t))
 
 -- items of a list
-
-has_left : {A : Type 0} {xs : List A} (ys : List A) {x : A} → Has xs x → Has (xs ++ ys) x
-has_left ys here = here
-has_left ys (there h) = there (has_left ys h)
-
-has_last : {A : Type 0} (xs : List A) (x : A) → Has (xs ++ (x ∷ [])) x
-has_last [] x = here
-has_last (y ∷ xs) x = there (has_last xs x)
-
-has_turned : {A : Type 0} {xs : List A} {x : A} → Has xs x → Has (reverse xs) x
-has_turned (here {x = x} {xs = xs}) = along (λ ys. Has ys x) (sym (reverse-append (x ∷ []) xs)) (has_last (reverse xs) x)
-has_turned (there {x = x} {y = y} {xs = xs} h) = along (λ ys. Has ys x) (sym (reverse-append (y ∷ []) xs)) (has_left (y ∷ []) (has_turned h))
 
 has_item : {A : Type 0} (xs : List A) (i : ℕ) (x : A) → i < length xs → x ≡ get_or xs i x → Has xs x
 has_item [] i x l e = absurd (omega arith)
 has_item (y ∷ xs) zero x l e = along (λ z. Has (y ∷ xs) z) (sym e) here
 has_item (y ∷ xs) (suc i) x l e = there (has_item xs i x (omega arith) e)
 
-pub deep_at : (f : BoxConstant → BoxConstant) (xs cs : List BoxConstant) (i : ℕ) (d : BoxConstant) → reverse xs ≡ cs → i < length xs → d ≡ get_or xs i d → 2048 < depth (f d).body → AreDeep (map f cs)
-deep_at f xs cs i d r l e h = along (λ cs. AreDeep (map f cs)) r (deep_body (f d) (has_map f (has_turned (has_item xs i d l e))) h)
+pub deep_at : (f : BoxConstant → BoxConstant) (xs cs : List BoxConstant) (i : ℕ) (d : BoxConstant) → reverse xs ≡ cs → i < length xs → d ≡ get_or xs i d → depth_limit < depth (f d).body → AreDeep (map f cs)
+deep_at f xs cs i d r l e h = along (λ cs. AreDeep (map f cs)) r (deep_body (f d) (has_map f (has_turned xs (has_item xs i d l e))) h)
 
 pub deep_program : (P : BoxProgram) → AreDeep P.constants → IsDeep P
 deep_program P (deep_body d h l) = deep_constant d h l
 
-pub shallow_more : (xs : List BoxConstant) (d : BoxConstant) → AreShallow xs → depth d.body ≤ 2048 → AreShallow (xs ++ (d ∷ []))
+pub shallow_more : (xs : List BoxConstant) (d : BoxConstant) → AreShallow xs → depth d.body ≤ depth_limit → AreShallow (xs ++ (d ∷ []))
 shallow_more [] d w h = (h, tt)
 shallow_more (x ∷ xs) d w h = (w.0, shallow_more xs d w.1 h)
 
@@ -205,10 +193,10 @@ shallow_turned (x ∷ xs) w = along AreShallow (sym (reverse-append (x ∷ []) x
 
 pub ruleset shallow_laws = (shallow_more, shallow_turned)
 
-shallow_at : {xs : List BoxConstant} {d : BoxConstant} → AreShallow xs → Has xs d → depth d.body ≤ 2048
+shallow_at : {xs : List BoxConstant} {d : BoxConstant} → AreShallow xs → Has xs d → depth d.body ≤ depth_limit
 shallow_at w here = w.0
 shallow_at w (there h) = shallow_at w.1 h
 
-pub shallow_program : (P : BoxProgram) → AreShallow P.constants → depth P.main ≤ 2048 → IsDeep P → ⊥
+pub shallow_program : (P : BoxProgram) → AreShallow P.constants → depth P.main ≤ depth_limit → IsDeep P → ⊥
 shallow_program P w m (deep_main l) = omega (arith, m, l)
 shallow_program P w m (deep_constant d h l) = omega (arith, shallow_at w h, l)

@@ -1,5 +1,5 @@
 -- How values are entered, and fixpoints opened, on both sides of saturation.
-use Rattle.std.proofs.Common.{◌≡◌, ℕ, suc, ◌+◌, ◌*◌, ◌<◌, ◌≤◌, List, [], ◌∷◌, ◌++◌, length, Some, refl, sym, ap, ◌∙◌, subst, arith}
+use Rattle.std.proofs.Common.{◌≡◌, ℕ, suc, ◌+◌, ◌*◌, ◌<◌, ◌≤◌, List, [], ◌∷◌, length, Some, refl, sym, ap, ◌∙◌, subst, arith}
 use Rattle.std.proofs.lemmas.Option.{same_Some}
 use Rattle.std.specs.Prelude.{slice_get}
 use Rattle.trees.specs.Tree.{term_at}
@@ -13,7 +13,7 @@ use Rattle.lambda_box.specs.BoxForm.{IsFixBody, boxed, last, more}
 use Rattle.lambda_box.specs.BoxEvaluation.{box_is, BoxTakesMore, box_unfolded, BoxUnfolds, BoxEvaluates, value, beta, box_app, extend, unfold_fix}
 use Rattle.lambda_box.specs.ClosureEvaluation.{ClosureValue, VBox, VClosure, VFix, ClosureValues, ClosureEnv, Bind, BindFix, Counts, ◌⊕◌, ClosureRun}
 use Rattle.lambda_box.specs.ClosureEvaluation.{run_app, run_box_app, run_fix_app, run_fix_box, RunArgs}
-use Rattle.lambda_box.proofs.Spines.{head_of, arguments, arguments_before, fix_head, fix_arguments, construct_not_fix}
+use Rattle.lambda_box.proofs.Spines.{head_of, arguments, arguments_before, fix_head, fix_arguments, construct_not_fix, apply_last}
 use Rattle.box_passes.proofs.Standing.{IsValue, is_box, is_lambda, is_fix, is_part, is_part_box, is_construct, is_waiting, Stands, StandBody, body_boxed, body_last, body_more, Made}
 use Rattle.box_passes.proofs.Standing.{Part, part_fix, part_app, part_box}
 use Rattle.box_passes.proofs.Selves.{made_is, waits_is, part_is, index_of, rargs_of, bodies_of, self, quiet}
@@ -114,10 +114,6 @@ pub record Opened (P : BoxProgram) (n : ℕ) (e : ClosureEnv) (b w : BoxTerm) (k
   pub gives : BoxEvaluates P t w k' m'
   pub within : k' ≤ k
   pub matches : Bare P → m' ≡ m
-
-pub apply_last : (f : BoxTerm) (xs : List BoxTerm) (u : BoxTerm) → box_apply f (xs ++ u ∷ []) ≡ BApp (box_apply f xs) u
-apply_last f [] u = refl
-apply_last f (x ∷ xs) u = apply_last (BApp f x) xs u
 
 module _ (P : BoxProgram) (closed : (k : Name) (b : BoxTerm) → KeepsBoxConstant P k b → Closed 0 b) where
   opened_beta : (k1 : ℕ) {n k' m' k2 k3 m1 m2 m3 : ℕ} {e : ClosureEnv} {b u v w c t : BoxTerm} {val : ClosureValue} → IsValue P u val → StandBody P (suc n) 0 e t (BLambda b) → BoxEvaluates P t (BLambda c) k' m' → (Bare P → m' ≡ m1) →

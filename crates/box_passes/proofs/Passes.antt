@@ -16,9 +16,9 @@ use Rattle.lambda_box.specs.SaturatedForm.{program_nodes, greatest_counts}
 use Rattle.box_passes.proofs.PropMatch.{prop_match_keeps}
 use Rattle.box_passes.proofs.PropMatchForm.{prop_match_form, prop_match_program_sizes}
 use Rattle.box_passes.proofs.SaturatedForm.{saturated_form, saturated_whole}
-use Rattle.lambda_box.proofs.Families.{of_has_map}
 use Rattle.box_passes.proofs.SaturatedSize.{saturated_size}
 use Rattle.box_passes.proofs.SaturatedCounts.{saturated_counts}
+use Rattle.trees.proofs.Lists.{of_has_map}
 
 -- saturation leaves matches ordinary
 

@@ -1,5 +1,6 @@
 -- Dropped matches on propositional families keep data: some of a term's matches may be dropped, and evaluation follows.
 use Rattle.std.proofs.Common.{◌≡◌, ℕ, zero, suc, ◌+◌, ◌≤◌, Bool, true, false, List, [], ◌∷◌, ◌++◌, length, map, Option, Some, None, refl, sym, ap, ◌∙◌, subst, arith}
+use Rattle.std.proofs.lemmas.Bool.{true≢false}
 use Rattle.std.proofs.lemmas.Option.{same_Some}
 use Rattle.std.specs.Prelude.{if◌then◌else◌}
 use mathlib.Core.Path.{fun_ext}
@@ -170,9 +171,6 @@ module _ (Fs : List BoxFamily) where
   drops_split {zs = zs} [] h = record { left = []; right = zs; lefts = drops_none; rights = h; is = refl }
   drops_split (x ∷ xs) (drops_one {x' = x'} h hs) = let r = drops_split xs hs in record { left = x' ∷ r.left; right = r.right; lefts = drops_one h r.lefts; rights = r.rights; is = ap (◌∷◌ x') r.is }
 
-true_false : true ≡ false → ⊥
-true_false e = cc
-
 module _ (P : BoxProgram) (ok : IsBoxProgram P) (Q : BoxProgram) (same_families : Q.families ≡ P.families)
     (constants : (k : Name) (b : BoxTerm) → KeepsBoxConstant P k b → (b' : BoxTerm) × KeepsBoxConstant Q k b' × Drops P.families b b') where
   kept_family : {f : FamilyId} {F : BoxFamily} → KeepsBoxFamily P f F → KeepsBoxFamily Q f F
@@ -242,7 +240,7 @@ module _ (P : BoxProgram) (ok : IsBoxProgram P) (Q : BoxProgram) (same_families 
     pub le : n' ≤ n
 
   ordinary : {f : FamilyId} {F : BoxFamily} {c : ℕ} {v : BoxTerm} {qs xs : List BoxTerm} → Has P.families F → F.id ≡ f → F.propositional ≡ true → IsBoxConstructor P f c v qs xs → ⊥
-  ordinary {f} {F} h i p (is_box_constructor {F = G} keeps q at lq lx e) = true_false (sym p ∙ ap (λ F. F.propositional) (unique_family P ok f F G (h, i) keeps) ∙ q)
+  ordinary {f} {F} h i p (is_box_constructor {F = G} keeps q at lq lx e) = true≢false (sym p ∙ ap (λ F. F.propositional) (unique_family P ok f F G (h, i) keeps) ∙ q)
 
   beta_kept : {f a b w v : BoxTerm} (n l k : ℕ) → Kept f (BLambda b) n → Kept a v l → ((b' v' : BoxTerm) → Drops P.families b b' → Drops P.families v v' → Kept (substitute (put v') b') w k) → Kept (BApp f a) w (suc (n + l + k))
   beta_kept {f} {a} {b} {w} n l k kf ka rest = go kf.ev kf.is

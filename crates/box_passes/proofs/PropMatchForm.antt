@@ -1,5 +1,6 @@
 -- Form and size of programs whose matches on propositional families are dropped.
 use Rattle.std.proofs.Common.{◌≡◌, ℕ, zero, suc, ◌+◌, ◌≤◌, Bool, true, false, List, [], ◌∷◌, length, map, refl, sym, ap, ◌∙◌, subst, arith}
+use Rattle.std.proofs.lemmas.Bool.{false≢true}
 use Rattle.trees.specs.Tree.{Slot, Rel, Node, Places, End, Child, Group, Done, Next}
 use Rattle.trees.specs.Parallel.{rename, overs, first, put_all, substitute, substitute_children, substitute_terms}
 use Rattle.trees.specs.Closed.{Closed, ClosedTerms, ClosedEach, EveryTerm}
@@ -20,9 +21,9 @@ use Rattle.box_passes.specs.PropMatch.{only_branch, match_of, drop_matches, drop
 use Rattle.lambda_box.proofs.Naming.{ordered_body}
 use Rattle.trees.proofs.Every.{every_substitute}
 use Rattle.lambda_box.proofs.Spines.{boxes_number}
-use Rattle.lambda_box.proofs.Families.{of_has_map, distinct_mapped}
+use Rattle.lambda_box.proofs.Families.{distinct_mapped}
 use Rattle.lambda_box.proofs.FormKept.{fix_bodies_substituted}
-use Rattle.trees.proofs.Lists.{has_map}
+use Rattle.trees.proofs.Lists.{has_map, of_has_map}
 
 -- box or a variable
 data IsTiny : BoxTerm → Type 0 where
@@ -254,10 +255,7 @@ module _ (Fs : List BoxFamily) (cs : List BoxConstant) where
 
   match_fine : {k : ℕ} (b : Bool) (f : FamilyId) (s : BoxTerm) (bs : BoxTerms) → propositional_of (family_of Fs f) ≡ b → (F : BoxFamily) × Has Fs F × (F.id ≡ f) × (binders_of bs ≡ F.args) → Fine (0 + k) s → FineTerms k bs → Fine k (match_of b f s bs)
   match_fine true f s bs p q h g = branch_fine f s bs q h g
-  match_fine false f s bs p q h g = record { closed = (h.closed, (g.closed, tt)); form = (q, (h.form, (g.form, tt))); named = (tt, (h.named, (g.named, tt))); ordinary = ((λ t. absurd (different (sym p ∙ t))), h.ordinary, g.ordinary) }
-    where
-      different : false ≡ true → ⊥
-      different e = cc
+  match_fine false f s bs p q h g = record { closed = (h.closed, (g.closed, tt)); form = (q, (h.form, (g.form, tt))); named = (tt, (h.named, (g.named, tt))); ordinary = ((λ t. absurd (false≢true (sym p ∙ t))), h.ordinary, g.ordinary) }
 
   dropped_binders : (ts : BoxTerms) → binders_of (drop_matches_terms Fs ts) ≡ binders_of ts
   dropped_binders Done = refl

@@ -18,9 +18,8 @@ use Rattle.box_passes.specs.Saturate.{innermost, lambdas, constructor_function, 
 use Rattle.box_passes.specs.SaturateLaws.{SaturateKeeps, SaturatedForm}
 use Rattle.lambda_box.proofs.Naming.{ordered_body, bodies_closed}
 use Rattle.lambda_box.proofs.Spines.{closed_apply, apply_append}
-use Rattle.box_passes.proofs.Filling.{drop_first}
+use Rattle.box_passes.proofs.Filling.{drop_first, slice_found}
 use Rattle.lambda_box.proofs.Families.{unique_family, family_found}
-use Rattle.box_passes.proofs.Saturating.{slice_there}
 use Rattle.box_passes.proofs.SaturatedForm.{saturated_form, saturated_whole}
 use Rattle.box_passes.proofs.Results.{result_of}
 use Rattle.box_passes.proofs.SaturateRelation.{Sat, sat_rel, sat_box, sat_lambda, sat_let, sat_constant, sat_case, sat_fix, sat_full, sat_waits, SatTerms, sat_done, sat_next, SatArgs, args_none, args_dropped, args_kept, waits_none, SatList, sat_none, sat_one, sat_apply}
@@ -82,7 +81,7 @@ module _ (P Q : BoxProgram) (unique : (f : FamilyId) (F G : BoxFamily) → Keeps
   construct_sat {xs} {ys} f c F h id lt gs =
       let r = family_found P.families f F h id in
       let same = unique f F r.family (h, id) (r.has, r.id) in
-      let at = slice_there r.family.args c (subst (λ G. c < length G.args) same lt) in
+      let at = slice_found r.family.args c (subst (λ G. c < length G.args) same lt) in
       subst (λ o. Sat P Q (box_apply (BConstruct f c) xs) (saturate_family o f c ys)) (sym r.finds)
       (subst (λ o. Sat P Q (box_apply (BConstruct f c) xs) (saturate_arguments r.family.params o f c ys)) (sym at.1) (counted_sat P Q f c at.0 r.family (r.has, r.id) at.1 gs))
 

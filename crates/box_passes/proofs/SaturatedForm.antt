@@ -14,11 +14,11 @@ use Rattle.lambda_box.specs.BoxForm.{IsFixBody, boxed, last, more, AreFixBodies,
 use Rattle.trees.specs.Closed.{EveryTerm}
 use Rattle.lambda_box.specs.OrdinaryForm.{family_of}
 use Rattle.box_passes.specs.Saturate.{innermost, lambdas, constructor_function, saturate_counted, saturate_arguments, saturate_family, saturate_applied, saturate_terms, saturate_term, saturate_constant, without_parameters, saturate_program}
+use Rattle.box_passes.proofs.Filling.{slice_found}
 use Rattle.lambda_box.specs.SaturatedForm.{IsSaturatedAt, AreSaturated, IsSaturated}
 use Rattle.lambda_box.proofs.Naming.{ordered_body}
-use Rattle.lambda_box.proofs.Families.{unique_family, family_found, of_has_map, distinct_mapped}
-use Rattle.box_passes.proofs.Saturating.{slice_there}
-use Rattle.trees.proofs.Lists.{has_map}
+use Rattle.lambda_box.proofs.Families.{unique_family, family_found, distinct_mapped}
+use Rattle.trees.proofs.Lists.{has_map, of_has_map}
 
 module _ (Fs : List BoxFamily) (cs : List BoxConstant) (unique : (F G : BoxFamily) → Has Fs F → Has Fs G → F.id ≡ G.id → F ≡ G) where
   abbrev Gs : List BoxFamily
@@ -90,7 +90,7 @@ module _ (Fs : List BoxFamily) (cs : List BoxConstant) (unique : (F G : BoxFamil
       let r = family_found Fs f F h id in
       let same = unique F r.family h r.has (id ∙ sym r.id) in
       let lt' = subst (λ G. c < length G.args) same lt in
-      let at = slice_there r.family.args c lt' in
+      let at = slice_found r.family.args c lt' in
       subst (λ o. Good k 0 (saturate_family o f c xs)) (sym r.finds) (subst (λ o. Good k 0 (saturate_arguments r.family.params o f c xs)) (sym at.1) (good_counted xs r.has r.id at.1 lt' gs))
 
   record GoodTerms (k : ℕ) (ts : BoxTerms) : Type 0 where

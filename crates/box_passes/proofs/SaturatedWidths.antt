@@ -13,9 +13,9 @@ use Rattle.lambda_box.specs.OrdinaryForm.{family_of}
 use Rattle.box_passes.specs.Saturate.{innermost, lambdas, constructor_function, saturate_counted, saturate_arguments, saturate_family, saturate_applied, saturate_terms, saturate_term, saturate_constant, without_parameters, saturate_program}
 use Rattle.box_passes.specs.SaturateLaws.{SaturatedWidths}
 use Rattle.box_passes.proofs.PropMatch.{family_of_is}
-use Rattle.lambda_box.proofs.Families.{of_has_map}
 use Rattle.box_passes.proofs.SaturatedSize.{slice_small}
 use Rattle.box_passes.proofs.Widths.{FitsTerm, fits_rel, fits_box, fits_lambda, fits_let, fits_app, fits_const, fits_construct, fits_case, fits_fix, fits_function, FitsTerms, fits_done, fits_next, fits_more, held_fit, called_small, main_small}
+use Rattle.trees.proofs.Lists.{of_has_map}
 
 arguments_small : (Fs : List BoxFamily) (F : BoxFamily) (c n : ℕ) → Has Fs F → slice_get F.args c ≡ Some n → n ≤ greatest_arguments Fs
 arguments_small (F ∷ Fs) G c n here e = omega (arith, slice_small F.args c n e)

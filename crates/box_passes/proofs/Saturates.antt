@@ -15,11 +15,10 @@ use Rattle.lambda_box.specs.BoxProgram.{BoxFamily, BoxProgram, KeepsBoxConstant,
 use Rattle.lambda_box.specs.BoxEvaluation.{box_is, lambda_is, construct_is, fix_is, IsBoxConstructor, is_box_constructor, BoxTakesMore, constructor, fixpoint, box_unfolded, BoxUnfolds, unfolds, BoxEvaluates, value, constant, let_in, beta, box_app, extend, unfold_fix, enter, enter_only}
 use Rattle.lambda_box.specs.BoxData.{Data, BoxReads, BoxReadsAll, box_reads, no_box_field, box_field}
 use Rattle.box_passes.specs.Saturate.{innermost, lambdas}
-use Rattle.lambda_box.proofs.Spines.{head_of, arguments, arguments_before, constructor_head, constructor_arguments, closed_put, closed_put_all, of_closed_apply, of_closed_append, closed_term_at, closed_evaluates, closed_unfolds, closed_boxes, boxes_number, construct_not_fix}
+use Rattle.lambda_box.proofs.Spines.{head_of, arguments, arguments_before, constructor_head, constructor_arguments, closed_put, closed_put_all, of_closed_apply, of_closed_append, closed_term_at, closed_evaluates, closed_unfolds, closed_boxes, boxes_number, construct_not_fix, apply_last}
 use Rattle.lambda_box.proofs.Determined.{lambda_takes_no_more}
 use Rattle.box_passes.proofs.Standing.{rename_whole}
 use Rattle.box_passes.proofs.Selves.{one_more, no_lambda, no_box, construct_not_unfolded}
-use Rattle.box_passes.proofs.Opening.{apply_last}
 use Rattle.box_passes.proofs.Follows.{same_counts}
 use Rattle.box_passes.proofs.Filling.{drop_first, drop_before}
 use Rattle.box_passes.proofs.Keeping.{drop_everything}

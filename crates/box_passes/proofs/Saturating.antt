@@ -1,5 +1,5 @@
 -- The saturated term is what its term stands for.
-use Rattle.std.proofs.Common.{◌≡◌, ℕ, zero, suc, ◌+◌, ◌-◌, ◌<◌, ◌≤◌, if◌then◌else◌, List, [], ◌∷◌, length, drop, Some, refl, sym, ap, subst, ⊎_elim, arith}
+use Rattle.std.proofs.Common.{◌≡◌, ℕ, suc, ◌+◌, ◌-◌, ◌<◌, ◌≤◌, if◌then◌else◌, List, [], ◌∷◌, length, drop, Some, refl, sym, ap, subst, ⊎_elim, arith}
 use Rattle.std.proofs.lemmas.Bool.{cases_lt, le-leb, lt-leb}
 use Rattle.std.specs.Prelude.{slice_get}
 use Rattle.trees.specs.Tree.{Rel, Done, Next}
@@ -18,6 +18,7 @@ use Rattle.lambda_box.proofs.Naming.{ordered_body}
 use Rattle.box_passes.proofs.Standing as standing
 use Rattle.box_passes.proofs.Standing.{Stands, StandTerms, none, next, StandBody, body_boxed, body_last, body_more, StandDefs, no_defs, one_def, StandArgs, args_head, args_dropped, args_kept, closed_stands}
 use Rattle.box_passes.proofs.Follows.{FamilyAt, ConstantAt}
+use Rattle.box_passes.proofs.Filling.{slice_found}
 use Rattle.trees.proofs.Lists.{has_map}
 
 -- lists of terms
@@ -79,18 +80,13 @@ module _ (P : BoxProgram) (f : FamilyId) (c n : ℕ) (F : BoxFamily) (keeps : Ke
       (let z : F.params - 0 ≡ F.params = omega arith in subst (λ d. Stands P k e (box_apply (BConstruct f c) xs) (box_apply (BConstruct f c) (drop d ys))) z (all_args 0 (omega arith) args_head gs (omega arith))))
       (cases_lt (length ys) (F.params + n))
 
-pub slice_there : (ns : List ℕ) (c : ℕ) → c < length ns → (n : ℕ) × (slice_get ns c ≡ Some n)
-slice_there [] c l = absurd (omega arith)
-slice_there (n ∷ ns) zero l = (n, refl)
-slice_there (n ∷ ns) (suc c) l = slice_there ns c (omega arith)
-
 module _ (P : BoxProgram) (unique : (f : FamilyId) (F G : BoxFamily) → KeepsBoxFamily P f F → KeepsBoxFamily P f G → F ≡ G) where
   construct_stands : {k : ℕ} {e : ClosureEnv} {xs ys : List BoxTerm} (f : FamilyId) (c : ℕ) (F : BoxFamily) → Has P.families F → F.id ≡ f → c < length F.args → StandList P k e xs ys →
       Stands P k e (box_apply (BConstruct f c) xs) (saturate_family (family_of P.families f) f c ys)
   construct_stands {k} {e} {xs} {ys} f c F h id lt gs =
       let r = family_found P.families f F h id in
       let same = unique f F r.family (h, id) (r.has, r.id) in
-      let at = slice_there r.family.args c (subst (λ G. c < length G.args) same lt) in
+      let at = slice_found r.family.args c (subst (λ G. c < length G.args) same lt) in
       subst (λ o. Stands P k e (box_apply (BConstruct f c) xs) (saturate_family o f c ys)) (sym r.finds)
       (subst (λ o. Stands P k e (box_apply (BConstruct f c) xs) (saturate_arguments r.family.params o f c ys)) (sym at.1) (counted P f c at.0 r.family (r.has, r.id) at.1 gs))
 

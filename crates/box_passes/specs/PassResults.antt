@@ -1,6 +1,6 @@
 -- What the passes promise of their programs.
 use Rattle.std.specs.Prelude.{ℕ, ◌+◌, ◌*◌, ◌<◌, ◌≤◌, ◌≡◌, List, map, length}
-use Rattle.trees.specs.Measures.{depth}
+use Rattle.trees.specs.Measures.{depth, depth_limit}
 use Rattle.box_terms.specs.BoxSyntax.{BoxTerm}
 use Rattle.lambda_box.specs.BoxProgram.{BoxConstant, BoxProgram, Has, box_apply}
 use Rattle.lambda_box.specs.BoxForm.{IsBoxProgram}
@@ -64,5 +64,5 @@ pub record Saturated (P Q : BoxProgram) : Type 0 where
 
 -- a term of the program is over the depth limit
 pub data IsDeep (P : BoxProgram) : Type 0 where
-  deep_main : 2048 < depth P.main → IsDeep P
-  deep_constant : (d : BoxConstant) → Has P.constants d → 2048 < depth d.body → IsDeep P
+  deep_main : depth_limit < depth P.main → IsDeep P
+  deep_constant : (d : BoxConstant) → Has P.constants d → depth_limit < depth d.body → IsDeep P

@@ -1,6 +1,6 @@
 //! The pass that gives constructors all their arguments, and no parameters.
 ghost use Rattle.std.specs.Prelude.{◌≡◌, ◌+◌, ◌<◌, ◌≤◌, IfOk, IfErr, map};
-ghost use Rattle.trees.specs.Measures.{depth, depth_trees};
+ghost use Rattle.trees.specs.Measures.{depth, depth_trees, depth_limit};
 ghost use Rattle.box_passes.specs.Saturate.{saturate_term, saturate_constant, saturate_program, constructor_function};
 ghost use Rattle.box_terms.specs.BoxLists.{arms_of, depth_defs};
 ghost use Rattle.box_terms.specs.BoxView.{box_of};
@@ -85,8 +85,8 @@ fn saturated_constants(
 /// The saturated term. `TooDeep` only where it is over the depth limit.
 fn saturated_term(alloc: Global, fs: &BoxFamilies, t: &BoxTerm) -> Result<BoxTerm, PassFault>
     ensures ok { IfOk result (λ u. u ≡ saturate_term fs.now t.now) }
-    ensures too_deep { IfErr result (λ e. e ≡ TooDeep → 2048 < depth (saturate_term fs.now t.now)) }
-    ensures shallow { IfOk result (λ u. depth u ≤ 2048) }
+    ensures too_deep { IfErr result (λ e. e ≡ TooDeep → depth_limit < depth (saturate_term fs.now t.now)) }
+    ensures shallow { IfOk result (λ u. depth u ≤ depth_limit) }
 {
     let _within = t.depth();
     let Head { term, spare: _ } = saturated(alloc, fs, t, 0)?;
@@ -97,7 +97,7 @@ fn saturated_term(alloc: Global, fs: &BoxFamilies, t: &BoxTerm) -> Result<BoxTer
 /// The term of a node. `TooDeep` where it is over the depth limit.
 fn made(alloc: Global, node: BoxNode) -> Result<BoxTerm, PassFault>
     ensures ok { IfOk result (λ u. u ≡ box_of node) }
-    ensures too_deep { IfErr result (λ e. e ≡ TooDeep → 2048 < depth (box_of node)) }
+    ensures too_deep { IfErr result (λ e. e ≡ TooDeep → depth_limit < depth (box_of node)) }
 {
     match BoxTerm::make(alloc, node) {
         Ok(t) => Ok(t),
@@ -109,7 +109,7 @@ fn made(alloc: Global, node: BoxNode) -> Result<BoxTerm, PassFault>
 /// A head that drops no argument.
 fn head_of(alloc: Global, node: BoxNode) -> Result<Head, PassFault>
     ensures ok { IfOk result (λ h. (h.term ≡ box_of node) × (h.spare ≡ 0)) }
-    ensures too_deep { IfErr result (λ e. e ≡ TooDeep → 2048 < depth (box_of node)) }
+    ensures too_deep { IfErr result (λ e. e ≡ TooDeep → depth_limit < depth (box_of node)) }
 {
     let term = made(alloc, node)?;
     Ok(Head { term, spare: 0 })
@@ -127,7 +127,7 @@ fn same_head(t: &BoxTerm, spare: u32) -> Result<Head, PassFault>
 /// A constructor as a function of its parameters and arguments.
 fn function(alloc: Global, f: FamilyId, c: u32, k: Arity) -> Result<BoxTerm, PassFault>
     ensures ok { IfOk result (λ u. u ≡ constructor_function k.params k.args f c) }
-    ensures too_deep { IfErr result (λ e. e ≡ TooDeep → 2048 < depth (constructor_function k.params k.args f c)) }
+    ensures too_deep { IfErr result (λ e. e ≡ TooDeep → depth_limit < depth (constructor_function k.params k.args f c)) }
 {
     let mut t = made(alloc, BoxNode::Construct(f, c))?;
     let mut i = k.args;
@@ -155,7 +155,7 @@ fn constructor(
 ) -> Result<Head, PassFault>
     requires is { t.now ≡ box_of (Construct f c) }
     ensures ok { IfOk result (λ h. (h.term ≡ head fs.now t.now n) × (h.spare ≡ spare fs.now t.now n)) }
-    ensures too_deep { IfErr result (λ e. e ≡ TooDeep → 2048 < depth (head fs.now t.now n)) }
+    ensures too_deep { IfErr result (λ e. e ≡ TooDeep → depth_limit < depth (head fs.now t.now n)) }
 {
     match arity_at(fs, f, c) {
         None => same_head(t, 0),
@@ -173,9 +173,9 @@ fn constructor(
 #[cycle(saturate)]
 #[tactic(auto, using(std::proofs::lemmas::Grind::common_steps))]
 fn saturated(alloc: Global, fs: &BoxFamilies, t: &BoxTerm, n: u32) -> Result<Head, PassFault>
-    requires room { n + depth t.now ≤ 2048 }
+    requires room { n + depth t.now ≤ depth_limit }
     ensures ok { IfOk result (λ h. (h.term ≡ head fs.now t.now n) × (h.spare ≡ spare fs.now t.now n)) }
-    ensures too_deep { IfErr result (λ e. e ≡ TooDeep → 2048 < depth (head fs.now t.now n)) }
+    ensures too_deep { IfErr result (λ e. e ≡ TooDeep → depth_limit < depth (head fs.now t.now n)) }
 {
     match t.view() {
         BoxNode::Boxed => same_head(t, 0),
@@ -257,9 +257,9 @@ fn saturated_branches(
     fs: &BoxFamilies,
     bs: &BoxBranches,
 ) -> Result<BoxBranches, PassFault>
-    requires room { depth_trees (arms_of bs.now) ≤ 2048 }
+    requires room { depth_trees (arms_of bs.now) ≤ depth_limit }
     ensures ok { IfOk result (λ xs. xs ≡ map (map_branch (λ t. head fs.now t 0)) bs.now) }
-    ensures too_deep { IfErr result (λ e. e ≡ TooDeep → 2048 < depth_trees (arms_of (map (map_branch (λ t. head fs.now t 0)) bs.now))) }
+    ensures too_deep { IfErr result (λ e. e ≡ TooDeep → depth_limit < depth_trees (arms_of (map (map_branch (λ t. head fs.now t 0)) bs.now))) }
 {
     let xs = bs.as_slice();
     let mut items = Vec::new(alloc);
@@ -281,9 +281,9 @@ fn saturated_branches(
 #[cycle(saturate)]
 #[tactic(auto, using(std::proofs::lemmas::Grind::common_steps))]
 fn saturated_defs(alloc: Global, fs: &BoxFamilies, ds: &BoxDefs) -> Result<BoxDefs, PassFault>
-    requires room { depth_defs ds.now ≤ 2048 }
+    requires room { depth_defs ds.now ≤ depth_limit }
     ensures ok { IfOk result (λ xs. xs ≡ map (map_def (λ t. head fs.now t 0)) ds.now) }
-    ensures too_deep { IfErr result (λ e. e ≡ TooDeep → 2048 < depth_defs (map (map_def (λ t. head fs.now t 0)) ds.now)) }
+    ensures too_deep { IfErr result (λ e. e ≡ TooDeep → depth_limit < depth_defs (map (map_def (λ t. head fs.now t 0)) ds.now)) }
 {
     let xs = ds.as_slice();
     let mut items = Vec::new(alloc);

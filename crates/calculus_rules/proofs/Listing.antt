@@ -2,10 +2,9 @@
 use Rattle.std.proofs.Common.{◌≡◌, refl, ap, List, [], ◌∷◌, Option, None, Some}
 use Rattle.std.specs.Option.{option_map}
 use Rattle.trees.specs.Tree.{terms_of}
-use Rattle.pc_terms.specs.Syntax.{Term}
-pub use Rattle.trees.proofs.Lists.{has_map}
+use Rattle.pc_terms.specs.Syntax.{Term, list_of}
+pub use Rattle.trees.proofs.Lists.{has_map, of_has_map, has_left, has_turned, first_same, rest_same}
 pub use Rattle.pc_terms.proofs.NodeTrees.{terms_of-inj as same_list}
-use Rattle.calculus_rules.specs.Listed.{list_of}
 
 pub listed : (ts : List Term) → list_of (terms_of ts) ≡ ts
 listed [] = refl

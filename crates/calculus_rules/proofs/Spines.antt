@@ -1,6 +1,6 @@
 -- The head and the arguments of an application to a list, and what tells heads apart.
-use Rattle.std.proofs.Common.{◌≡◌, ℕ, List, [], ◌∷◌, ◌++◌, length, drop, Some, refl, sym, ap, ◌∙◌, arith, append_assoc, append-nil, slice_get}
-use Rattle.pc_terms.specs.Syntax.{Term, Terms, Done, App, Lambda, Construct, Fix, apply, head, args}
+use Rattle.std.proofs.Common.{◌≡◌, ℕ, List, [], ◌∷◌, ◌++◌, length, map, drop, Some, refl, sym, ap, ◌∙◌, arith, append_assoc, append-nil, slice_get}
+use Rattle.pc_terms.specs.Syntax.{Term, Terms, Done, App, Lambda, Construct, Fix, substitute, first, put_all, apply, head, args}
 
 pub head-apply : (f : Term) (xs : List Term) → head (apply f xs) ≡ head f
 head-apply f [] = refl
@@ -9,6 +9,16 @@ head-apply f (a ∷ xs) = head-apply (App f a) xs
 pub args-apply : (f : Term) (xs : List Term) → args (apply f xs) ≡ args f ++ xs
 args-apply f [] = sym (append-nil (args f))
 args-apply f (a ∷ xs) = args-apply (App f a) xs ∙ append_assoc (args f) (a ∷ []) xs
+
+-- an application under a substitution
+pub substitute-apply : (s : ℕ → Term) (f : Term) (xs : List Term) → substitute s (apply f xs) ≡ apply (substitute s f) (map (substitute s) xs)
+substitute-apply s f [] = refl
+substitute-apply s f (a ∷ xs) = substitute-apply s (App f a) xs
+
+-- a list put in for variables, and one term more
+pub put_more : (xs : List Term) (a : Term) (s : ℕ → Term) → put_all (xs ++ (a ∷ [])) s ≡ first a (put_all xs s)
+put_more [] a s = refl
+put_more (x ∷ xs) a s = put_more xs a (first x s)
 
 -- the head and the arguments of a spine, by an equation for the term
 pub head_is : {g : Term} (f : Term) (xs : List Term) → g ≡ apply f xs → head g ≡ head f

@@ -5,7 +5,7 @@
 use Rattle.std.specs.Prelude.{ℕ, zero, suc, ◌-◌, ◌≡◌, ◌==◌, ◌&&◌, ◌||◌, Bool, false, nat_lt, nat_le, List, [], ◌∷◌, Option, Some, None, length, take, slice_get, if◌then◌else◌}
 use Rattle.pc_terms.specs.declared.leaf.Name.{Name}
 use Rattle.pc_terms.specs.declared.leaf.FamilyId.{FamilyId}
-use Rattle.pc_terms.specs.Syntax.{Slot, Under, Lists, slots, Term, Children, End, Child, Group, Terms, Done, Next, Label, LetInOf, Rel, Node, Prod, Lambda, LetIn, App, Ind, Case, Fix, apply, head, args}
+use Rattle.pc_terms.specs.Syntax.{Slot, Under, Lists, slots, Term, Children, End, Child, Group, Terms, Done, Next, Label, LetInOf, Rel, Node, Prod, Lambda, LetIn, App, Ind, Case, Fix, apply, head, args, list_of}
 use Rattle.calculus_rules.specs.declared.declaration.Constructor.{Constructor}
 use Rattle.calculus_rules.specs.declared.declaration.Block.{Block}
 use Rattle.calculus_rules.specs.declared.target.Target.TheVariants.{Families}
@@ -15,7 +15,6 @@ use Rattle.calculus_rules.specs.Conversion.{Equal}
 use Rattle.calculus_rules.specs.Same.{same_names}
 use Rattle.calculus_rules.specs.Naming.{names_block, some_names}
 use Rattle.calculus_rules.specs.Lookups.{kept_at, whole_block}
-use Rattle.calculus_rules.specs.Listed.{list_of}
 
 -- what is known of a variable: it is the fixpoint's variable for a definition, with the place of that definition's recursive argument;
 -- it is equal to the recursive argument of the body that is walked; it is smaller; or none of these

@@ -17,5 +17,4 @@ pub mod Lawful
 pub mod Laws
 pub mod Same
 pub mod Lookups
-pub mod Listed
 pub mod PropSorts

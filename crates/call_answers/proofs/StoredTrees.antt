@@ -1,5 +1,6 @@
 -- The arguments in a host's store as trees, and the values that are these trees.
 use Rattle.std.proofs.Common.{◌≡◌, ℕ, suc, ◌+◌, ◌*◌, ◌≤◌, List, [], ◌∷◌, ◌++◌, length, refl, sym, ap, ◌∙◌, subst, arith, append_assoc, append-nil, length-append}
+use Rattle.trees.proofs.Lists.{first_same, rest_same}
 use Rattle.lambda_box.specs.ClosureEvaluation.{ClosureValues}
 use Rattle.lambda_box.specs.DataTerms.{ValuesHold, hold_none, hold_last}
 use Rattle.anf_convert.specs.AnfData.{DataTree, Made, DataTrees, DNil, DCons, AnfIsData, anf_data, AnfAreData, anf_data_none, anf_data_more}
@@ -22,12 +23,6 @@ listed_count DNil = refl
 listed_count (DCons d ds) = let l = length-append (listed ds) (preorder d ∷ []) in omega (arith, l, listed_count ds)
 
 -- ---- nodes determine their trees
-
-first_same : {A : Type 0} {x y : A} {xs ys : List A} → x ∷ xs ≡ y ∷ ys → x ≡ y
-first_same e = cc
-
-rest_same : {A : Type 0} {x y : A} {xs ys : List A} → x ∷ xs ≡ y ∷ ys → xs ≡ ys
-rest_same e = cc
 
 mutual
   one_tree : (d d' : DataTree) (xs ys : DataNodes) → preorder d ++ xs ≡ preorder d' ++ ys → (d ≡ d') × (xs ≡ ys)

@@ -7,6 +7,7 @@ use Rattle.pc_rules.specs.DirectedLaws.{more}
 use Rattle.pc_rules.specs.DirectedRun as run
 use Rattle.pc_rules.specs.DirectedRun.{Run, bind}
 use Rattle.pc_rules.specs.DirectedPositivity.{both}
+use Rattle.pc_rules.proofs.EvaluationRuns.{more_none, more_more}
 use Rattle.rule_laws.proofs.Runs.{bind_both, tested, done_value}
 use Rattle.cert_rules.specs.Walk.{Items, WalkState, Passed, Walk, pass, walk_on, by_rules}
 use Rattle.cert_rules.specs.WalkDeclarations.{walk_positive}
@@ -69,17 +70,11 @@ module _ (cert : Items) where
         ]);
   }
 
-  more_none : (v : Account) → v ≡ more 0 v
-  more_none v = let e : v.left ≡ v.left + 0 = omega arith in λ i. record { left = e i; uses = v.uses }
-
-  more_twice : (n m : ℕ) (v : Account) → more n (more m v) ≡ more (n + m) v
-  more_twice n m v = let e : v.left + m + n ≡ v.left + (n + m) = omega arith in λ i. record { left = e i; uses = v.uses }
-
   -- one after the other: what both owe
   led_owing : {A B : Type 0} (n m : ℕ) (u v w : Account) (is js : Items) (h : WalkState → Walk A) (k : A → WalkState → Walk B) (a : A) (b : B) → Led cert u (more n v) is h a →
       Led cert v (more m w) js (k a) b → Led cert u (more (n + m) w) (is ++ js) (λ s. walk_on (h s) k) b
   led_owing n m u v w is js h k a b p q =
-      subst (λ x. Led cert u x (is ++ js) (λ s. walk_on (h s) k) b) (more_twice n m w)
+      subst (λ x. Led cert u x (is ++ js) (λ s. walk_on (h s) k) b) (more_more n m w)
       (led_on cert u (more n v) (more n (more m w)) is js h k a b p (led_later n v (more m w) js (k a) b q))
 
   -- the walk is led, and owes a test that holds

@@ -1,6 +1,6 @@
 -- Rule 11 of the certified walk, of fixpoints, gives types.
 use Rattle.std.proofs.Common.{◌≡◌, ℕ, suc, List, [], ◌∷◌, length, Some, sym, ap, ◌∙◌, subst, arith}
-use Rattle.pc_terms.specs.Syntax.{Term, Terms, Done, Next, shift, apply, head, args, term_at, Ind, Fix}
+use Rattle.pc_terms.specs.Syntax.{Term, Terms, Done, Next, shift, apply, head, args, term_at, Ind, Fix, list_of}
 use Rattle.pc_terms.specs.Formed.{binders_of, EachTerm, AreAll, HasForm, IsFormed}
 use Rattle.calculus_rules.specs.declared.entry.Entry.TheVariants.{Assumed}
 use Rattle.calculus_rules.specs.Environment.{Env}
@@ -10,7 +10,6 @@ use Rattle.calculus_rules.specs.Conversion.{Equal}
 use Rattle.calculus_rules.specs.Guardedness.{IsGuarded}
 use Rattle.calculus_rules.specs.Typing.{fix, no_types, a_type, no_bodies, a_body}
 use Rattle.pc_rules.specs.DirectedRun.{make}
-use Rattle.calculus_rules.specs.Listed.{list_of}
 use Rattle.pc_rules.specs.DirectedGuard.{fix_guard}
 use Rattle.pc_rules.specs.DirectedTyping.{recursive_domain, enough_abstractions, is_a_family, definition_type}
 use Rattle.calculus_rules.proofs.Spines.{spine_is}

@@ -3,7 +3,7 @@ use Rattle.std.proofs.Common.{◌≡◌, ◌∙◌, ℕ, suc, ◌+◌, ◌==◌,
 use Rattle.std.proofs.lemmas.Bool.{eqb-true}
 use Rattle.universe_levels.specs.declared.sort.Sort.{Sort}
 use Rattle.pc_terms.specs.declared.leaf.FamilyId.{FamilyId}
-use Rattle.pc_terms.specs.Syntax.{Term, Terms, Done, Next, Rel, SortT, Case, first, substitute, apply, head, args, terms_of, Ind}
+use Rattle.pc_terms.specs.Syntax.{Term, Terms, Done, Next, Rel, SortT, Case, first, substitute, apply, head, args, terms_of, list_of, Ind}
 use Rattle.pc_terms.specs.Formed.{binders_of, EachTerm, HasForm, IsFormed}
 use Rattle.calculus_rules.specs.declared.declaration.Constructor.{Constructor}
 use Rattle.calculus_rules.specs.declared.declaration.Block.{Block}
@@ -15,7 +15,6 @@ use Rattle.calculus_rules.specs.Elimination.{MayEliminate}
 use Rattle.calculus_rules.specs.Typing.{guarded, Types, case, TypesAll, no_terms, term, Entries, no_entries, entry, Branches, no_branches, branch, EntrySorts, no_sorts, a_sort}
 use Rattle.pc_rules.specs.DirectedRun.{make, passing, any_beyond}
 use Rattle.calculus_rules.specs.Lookups.{kept_at, whole_block, family_of}
-use Rattle.calculus_rules.specs.Listed.{list_of}
 use Rattle.calculus_rules.proofs.WeakHead.{weak_equal}
 use Rattle.pc_rules.specs.DirectedTyping.{find_family, match_counted, eliminated, is_the_family, branch_beyond}
 use Rattle.pc_rules.specs.WellCounted.{IsCountedNode, arities, IsCounted, AreCounted, AreCountedConstructors, HasCountedDeclarations, IsCountedContext}
@@ -24,7 +23,8 @@ use Rattle.rule_laws.specs.Inference.{IsInferred, AllFormed}
 use Rattle.rule_laws.proofs.Counted.{PutsCounted, rel_counted, first_counted, substituted_counted, apply_counted, appended_counted, args_counted, terms_counted}
 use Rattle.rule_laws.proofs.KeepCounts.{IsCountedFamilyDecl, values_counted, steps_counted, kept_counted}
 use Rattle.rule_laws.proofs.CountedParts.{ind_counted, predicate_entries_counted, branch_entries_counted, predicate_at_counted, branch_type_counted, context_extended}
-use Rattle.rule_laws.proofs.Comparing.{names_long, list_long, first_same, rest_same, no_suc}
+use Rattle.calculus_rules.proofs.Listing.{first_same, rest_same}
+use Rattle.rule_laws.proofs.Comparing.{names_long, list_long, no_suc}
 use Rattle.rule_laws.proofs.SimpleRules.{formed, whole_family}
 use Rattle.rule_laws.proofs.MatchRule.{all_formed, formed_list, terms_are, Counted, eliminated_is, dropped_counted}
 pub use Rattle.rule_laws.proofs.MatchRule.{match_is_counted}

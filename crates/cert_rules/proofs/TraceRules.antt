@@ -2,7 +2,7 @@
 use Rattle.std.proofs.Common.{◌≡◌, ◌∙◌, ℕ, zero, suc, ◌+◌, ◌==◌, ◌&&◌, Bool, List, [], ◌∷◌, ◌++◌, length, drop, Option, Some, refl, sym, ap, subst}
 use Rattle.universe_levels.specs.Sorts.{product_sort}
 use Rattle.pc_terms.specs.declared.leaf.FamilyId.{FamilyId}
-use Rattle.pc_terms.specs.Syntax.{Term, Terms, Done, Next, Rel, SortT, Const, Case, put, substitute, shift, apply, head, args, term_at, Prod, Lambda, LetIn, App, Ind, Construct, Fix}
+use Rattle.pc_terms.specs.Syntax.{Term, Terms, Done, Next, Rel, SortT, Const, Case, put, substitute, shift, apply, head, args, term_at, Prod, Lambda, LetIn, App, Ind, Construct, Fix, list_of}
 use Rattle.pc_terms.specs.Formed.{binders_of, EachTerm, AreAll, HasForm, IsFormed}
 use Rattle.calculus_rules.specs.declared.declaration.Constructor.{Constructor}
 use Rattle.calculus_rules.specs.declared.declaration.Block.{Block}
@@ -17,7 +17,6 @@ use Rattle.pc_rules.specs.DirectedRun as run
 use Rattle.pc_rules.specs.DirectedRun.{Run, bind, make, ticking, noted, too_nested, any_beyond}
 use Rattle.calculus_rules.specs.Lookups.{kept_at, whole_block, family_of}
 use Rattle.pc_rules.specs.DirectedComparison.{Test, IsTest, Comparison, compare}
-use Rattle.calculus_rules.specs.Listed.{list_of}
 use Rattle.pc_rules.specs.DirectedGuard.{fix_guard}
 use Rattle.pc_rules.specs.DirectedTyping.{Typing, sort_of, retype, rel_rule, sort_rule, prod_rule, lambda_rule, let_rule, app_found, app_rule, const_rule, find_family, ind_rule, construct_rule, match_counted, eliminated, is_the_family, found_family, scrutinee_fits, scrutinee_rule, branch_beyond, branch_rule, branches_rule, predicate_rule, case_rule, types_rule, recursive_domain, enough_abstractions, is_a_family, family_found, definition_rule, definitions_rule, definition_type, fix_rule, rule, rule_number, infer}
 use Rattle.pc_rules.specs.WellCounted.{IsCountedNode, IsCounted, AreCounted, AreCountedConstructors, HasCountedDeclarations, IsCountedContext}

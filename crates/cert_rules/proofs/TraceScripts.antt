@@ -2,7 +2,7 @@
 use Rattle.std.proofs.Common.{◌≡◌, ◌∙◌, ℕ, zero, suc, ◌+◌, ◌==◌, ◌||◌, Bool, true, if◌then◌else◌, List, [], ◌∷◌, ◌++◌, length, Option, Some, None, refl, sym, ap, subst, arith, slice_get, length-append, append-nil, append_assoc}
 use Rattle.std.proofs.lemmas.Bool.{eqb-true, eq-eqb, and_from}
 use Rattle.pc_terms.specs.declared.leaf.FamilyId.{FamilyId}
-use Rattle.pc_terms.specs.Syntax.{CaseOf, FixOf, Term, Terms, End, Child, Group, Done, Next, Rel, Const, Case, head, args, number, App, Ind, Construct, Fix}
+use Rattle.pc_terms.specs.Syntax.{CaseOf, FixOf, Term, Terms, End, Child, Group, Done, Next, Rel, Const, Case, head, args, number, App, Ind, Construct, Fix, list_of}
 use Rattle.pc_terms.specs.Formed.{binders_of, EachTerm, AreAll}
 use Rattle.calculus_rules.specs.declared.declaration.Constructor.{Constructor}
 use Rattle.pc_rules.specs.declared.meter.Account.{Account}
@@ -14,14 +14,14 @@ use Rattle.pc_rules.specs.DirectedRun as run
 use Rattle.pc_rules.specs.DirectedRun.{Run, bind, any_beyond}
 use Rattle.calculus_rules.specs.Lookups.{family_of}
 use Rattle.pc_rules.specs.DirectedComparison.{Test, Comparison, alike, each_equal, branches_equal, matches_equal, lifted_types, fixpoints_equal, heads_equal}
-use Rattle.calculus_rules.specs.Listed.{list_of}
 use Rattle.calculus_rules.proofs.Telescopes.{entries_at_length}
 use Rattle.pc_rules.specs.WellCounted.{arities, IsCountedNode, IsCounted, AreCountedValues}
 use Rattle.pc_rules.proofs.WeakNext.{same_names_is, same_families_is, both_true}
 use Rattle.pc_rules.proofs.SameTrees.{same_numbers_is, same_itself, one_number, one_list, one_family, false_true}
 use Rattle.rule_laws.proofs.Runs.{done_value}
 use Rattle.rule_laws.proofs.KeepCounts.{under_counted, values_extended}
-use Rattle.rule_laws.proofs.Comparing.{names_long, list_long, first_same, rest_same, no_suc, no_cons, lifted_long}
+use Rattle.calculus_rules.proofs.Listing.{first_same, rest_same}
+use Rattle.rule_laws.proofs.Comparing.{names_long, list_long, no_suc, no_cons, lifted_long}
 use Rattle.cert_rules.specs.declared.item.CertItem.{CertItem}
 use Rattle.cert_rules.specs.declared.item.CertItem.TheVariants.{Same, Parts}
 use Rattle.cert_rules.specs.Walk.{Items, WalkState, WalkAct, WalkEnd, Passed, Barred, Unpaid, Crowded, pass, bar_here, past, end_on, walk_on, walk_all}

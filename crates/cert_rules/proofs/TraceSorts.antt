@@ -15,7 +15,7 @@ use Rattle.pc_rules.specs.DirectedRun.{Run, bind, make}
 use Rattle.pc_rules.specs.DirectedComparison.{Comparison}
 use Rattle.pc_rules.specs.DirectedTyping.{Typing, conv, sort_found, sort_of, check, retype, check_all, sorts_of}
 use Rattle.pc_rules.specs.WellCounted.{IsCounted, AreCounted, HasCountedDeclarations, AreCountedValues, IsCountedContext}
-use Rattle.pc_rules.proofs.SameTrees.{same_is, same_itself, not_true}
+use Rattle.pc_rules.proofs.SameTrees.{same_is, same_itself, not_true, false_true}
 use Rattle.rule_laws.specs.Inference.{IsInferred, AllFormed}
 use Rattle.rule_laws.proofs.Runs.{done_value}
 use Rattle.rule_laws.proofs.Counted.{PutsCounted, first_counted, substituted_counted}
@@ -33,12 +33,9 @@ use Rattle.cert_rules.proofs.Exact.{exact_make}
 use Rattle.cert_rules.proofs.Traces.{write_both, writing_done, writing_forgotten, on_forgotten, conv_falls, Led, led_item, led_more, Traces, trace_on, trace_less, trace_rules, trace_done, trace_refused, trace_noting, trace_conv, trace_if}
 use Rattle.cert_rules.proofs.ReachedSteps.{reach_same, reach_other, trace_reduced}
 
-true_false : {A : Type 0} {b : Bool} → b ≡ true → b ≡ false → A
-true_false e f = absurd (cc)
-
 pub same_flip : (a b : Term) (x : Bool) → same a b ≡ x → same b a ≡ x
 same_flip a b true e = subst (λ y. same y a ≡ true) (same_is a b e) (same_itself a)
-same_flip a b false e = not_true (same b a) (λ f. true_false (subst (λ y. same a y ≡ true) (sym (same_is b a f)) (same_itself a)) e)
+same_flip a b false e = not_true (same b a) (λ f. false_true (sym e ∙ subst (λ y. same a y ≡ true) (sym (same_is b a f)) (same_itself a)))
 
 pub make_is : (X T : Term) (u v : Account) → (make X u).end ≡ run.Done T v → X ≡ T
 make_is X T u v e = done_value e
@@ -87,9 +84,9 @@ module _ (cert : Items) (E : Env) (w : HasCountedDeclarations E) where
     after_trace : {P : Sort → Type 0} (c : Context) (T : Term) (r : Sort) (n : ℕ) → P r → IsCountedContext E c → Reach E (values c) n T (SortT r) →
         Traces cert P (λ u. sort_found infd c T (SortT r) u) (λ u. make_sort_found infg c T (SortT r) u) (λ s. sort_after infh c r n s)
     after_trace c T r zero h k p =
-        trace_if cert (same T (SortT r)) _ _ _ _ _ (λ e. trace_done cert r h) (λ e. true_false (reach_same E (values c) 0 T (SortT r) p refl) e)
+        trace_if cert (same T (SortT r)) _ _ _ _ _ (λ e. trace_done cert r h) (λ e. false_true (sym e ∙ reach_same E (values c) 0 T (SortT r) p refl))
     after_trace c T r (suc n) h k p =
-        trace_if cert (same T (SortT r)) _ _ _ _ _ (λ e. true_false e (reach_other E (values c) (suc n) T (SortT r) p (omega arith)))
+        trace_if cert (same T (SortT r)) _ _ _ _ _ (λ e. false_true (sym (reach_other E (values c) (suc n) T (SortT r) p (omega arith)) ∙ e))
         (λ e. trace_conv cert _ _ _ (trace_on cert _ _ _ _ _ _ (ti c (SortT r) k ((tt, tt), tt)) (λ a i. trace_done cert r h)))
 
     found_trace : {P : Sort → Type 0} (c : Context) (T W : Term) (n i : ℕ) → ((r : Sort) → P r) → IsCountedContext E c → Reach E (values c) n T W →
@@ -110,9 +107,9 @@ module _ (cert : Items) (E : Env) (w : HasCountedDeclarations E) where
         Traces cert (λ _. Unit {0}) (λ u. retype E infd c T W u) (λ u. make_retype E infg c T W u) (λ s. walk_retype cert E infh c n W s)
     unfolding retype make_retype walk_retype
     retype_trace c T W zero k f p =
-        trace_if cert (same T W) _ _ _ _ _ (λ e. trace_done cert tt tt) (λ e. true_false (reach_same E (values c) 0 T W p refl) e)
+        trace_if cert (same T W) _ _ _ _ _ (λ e. trace_done cert tt tt) (λ e. false_true (sym e ∙ reach_same E (values c) 0 T W p refl))
     retype_trace c T W (suc n) k f p =
-        trace_if cert (same T W) _ _ _ _ _ (λ e. true_false e (reach_other E (values c) (suc n) T W p (omega arith)))
+        trace_if cert (same T W) _ _ _ _ _ (λ e. false_true (sym (reach_other E (values c) (suc n) T W p (omega arith)) ∙ e))
         (λ e. trace_conv cert _ _ _ (trace_on cert _ _ _ _ _ _ (sort_trace c W k f) (λ a i. trace_done cert tt tt)))
 
     -- the sorts of a telescope's entries

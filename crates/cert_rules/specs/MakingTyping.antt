@@ -5,7 +5,7 @@ use Rattle.std.specs.Prelude.{ℕ, zero, suc, ◌==◌, ◌&&◌, Bool, true, fa
 use Rattle.universe_levels.specs.declared.sort.Sort.{Sort}
 use Rattle.universe_levels.specs.Sorts.{product_sort}
 use Rattle.pc_terms.specs.declared.leaf.FamilyId.{FamilyId}
-use Rattle.pc_terms.specs.Syntax.{Term, Terms, Rel, SortT, Const, Case, first, put, substitute, shift, apply, head, args, term_at, Prod, Lambda, LetIn, App, Ind, Construct, Fix}
+use Rattle.pc_terms.specs.Syntax.{Term, Terms, Rel, SortT, Const, Case, first, put, substitute, shift, apply, head, args, term_at, Prod, Lambda, LetIn, App, Ind, Construct, Fix, list_of}
 use Rattle.calculus_rules.specs.declared.declaration.Constructor.{Constructor}
 use Rattle.calculus_rules.specs.declared.declaration.Block.{Block}
 use Rattle.calculus_rules.specs.declared.entry.Entry.TheVariants.{Assumed, Defined}
@@ -20,7 +20,6 @@ use Rattle.pc_rules.specs.DirectedRun.{Run, done, refused, too_nested, passing, 
 use Rattle.pc_rules.specs.DirectedWeakHead.{whnf}
 use Rattle.calculus_rules.specs.Lookups.{kept_at, whole_block, family_of}
 use Rattle.pc_rules.specs.DirectedComparison.{Test, sorts_stand, alike, lifted_types}
-use Rattle.calculus_rules.specs.Listed.{list_of}
 use Rattle.pc_rules.specs.DirectedGuard.{fix_guard}
 use Rattle.pc_rules.specs.DirectedTyping.{conv, rel_rule, sort_rule, const_rule, find_family, ind_rule, construct_rule, match_counted, eliminated, found_family, branch_beyond, recursive_domain, enough_abstractions, family_found, definition_type, rule_number}
 use Rattle.cert_rules.specs.declared.item.CertItem.{CertItem}

@@ -5,7 +5,7 @@ use Rattle.std.specs.Prelude.{ℕ, zero, suc, ◌+◌, ◌==◌, ◌&&◌, false
 use Rattle.universe_levels.specs.declared.sort.Sort.{Sort}
 use Rattle.universe_levels.specs.Sorts.{product_sort}
 use Rattle.pc_terms.specs.declared.leaf.FamilyId.{FamilyId}
-use Rattle.pc_terms.specs.Syntax.{Term, Terms, Rel, SortT, Const, Case, first, put, substitute, shift, apply, head, args, term_at, Prod, Lambda, LetIn, App, Ind, Construct, Fix}
+use Rattle.pc_terms.specs.Syntax.{Term, Terms, Rel, SortT, Const, Case, first, put, substitute, shift, apply, head, args, term_at, Prod, Lambda, LetIn, App, Ind, Construct, Fix, list_of}
 use Rattle.calculus_rules.specs.declared.declaration.Constructor.{Constructor}
 use Rattle.calculus_rules.specs.declared.declaration.Block.{Block}
 use Rattle.calculus_rules.specs.declared.entry.Entry.TheVariants.{Assumed, Defined}
@@ -16,7 +16,6 @@ use Rattle.calculus_rules.specs.Same.{same}
 use Rattle.pc_rules.specs.DirectedRun.{make, passing, any_beyond}
 use Rattle.calculus_rules.specs.Lookups.{kept_at, whole_block}
 use Rattle.pc_rules.specs.DirectedComparison.{Test}
-use Rattle.calculus_rules.specs.Listed.{list_of}
 use Rattle.pc_rules.specs.DirectedGuard.{fix_guard}
 use Rattle.pc_rules.specs.DirectedTyping.{rel_rule, sort_rule, const_rule, find_family, ind_rule, construct_rule, match_counted, eliminated, is_the_family, branch_beyond, recursive_domain, enough_abstractions, is_a_family, definition_type}
 use Rattle.cert_rules.specs.declared.item.CertItem.{CertItem}

@@ -1,10 +1,9 @@
 -- All that the tokens of a certificate spell is read, and so is what is printed.
-use Rattle.std.proofs.Common.{◌≡◌, ◌∙◌, ℕ, ◌+◌, ◌^◌, ◌<◌, Bool, true, false, if◌then◌else◌, List, [], ◌∷◌, ◌++◌, length, drop, take, get_or, refl, sym, ap, subst, arith, decimal}
-use Rattle.std.specs.Prelude.{nat_eq}
+use Rattle.std.proofs.Common.{◌≡◌, ◌∙◌, ℕ, ◌+◌, ◌^◌, ◌<◌, true, false, if◌then◌else◌, List, [], ◌∷◌, ◌++◌, length, drop, take, get_or, refl, sym, ap, subst, arith, decimal}
 use Rattle.std.proofs.lemmas.List.{take_more}
 use Rattle.std.proofs.lemmas.Slice.Eq.{bytes_eq-Decides}
 use Rattle.sexp_reader.specs.Text.{Text, Open, Close, Atom, Stray}
-use Rattle.sexp_reader.specs.Lex.{Spanned, is_blank, is_atom_byte, begins_atom, more_bytes, longer, atom_before, single, lex, left}
+use Rattle.sexp_reader.specs.Lex.{Spanned, lex, left}
 use Rattle.dump_grammar.specs.Numbers.{number_of}
 use Rattle.dump_grammar.specs.Judge.{texts}
 use Rattle.dump_printer.specs.CanonicalTerms.{numeral}
@@ -18,6 +17,7 @@ use Rattle.cert_text.specs.CertReading.{CertRead, Read, WrongToken, Wants, AnIte
 use Rattle.cert_text.specs.TextLaws.{IsReadBack}
 use Rattle.cert_text.proofs.ReadTokens.{next_item, no_item}
 use Rattle.cert_text.proofs.Taking.{small_number}
+use Rattle.dump_grammar.proofs.TextsAnywhere.{texts_anywhere}
 
 -- tokens by their texts
 
@@ -130,33 +130,6 @@ module _ (len : ℕ) where
       (λ ss e. next_read (Atom one_word) ss _ (items_tokens is) (Read is) ((bytes_eq-Decides one_word one_word).1 refl) e
       (λ ss e. items_read is ss e h)))
 
--- tokens from another offset on
-
-texts_longer : (n m b : ℕ) (ss rr : List Spanned) → texts ss ≡ texts rr → texts (longer n b ss) ≡ texts (longer m b rr)
-texts_longer n m b [] [] e = refl
-texts_longer n m b [] (r ∷ rr) e = no_text e
-texts_longer n m b (s ∷ ss) [] e = some_text e
-texts_longer n m b (s ∷ ss) (r ∷ rr) e = λ i. more_bytes b (first_text e i) ∷ rest_text e i
-
-texts_before : (n m b : ℕ) (next : Bool) (ss rr : List Spanned) → texts ss ≡ texts rr → texts (atom_before n b next ss) ≡ texts (atom_before m b next rr)
-texts_before n m b true ss rr e = texts_longer n m b ss rr e
-texts_before n m b false ss rr e = ap (λ ts. Atom (b ∷ []) ∷ ts) e
-
-texts_if : (x : Bool) (a b c d : List Spanned) → texts a ≡ texts c → texts b ≡ texts d → texts (if x then a else b) ≡ texts (if x then c else d)
-texts_if true a b c d e f = e
-texts_if false a b c d e f = f
-
-texts_lex : (n m : ℕ) (c : Bool) (bytes : List ℕ) → texts (lex n c bytes) ≡ texts (lex m c bytes)
-unfolding lex
-texts_lex n m true [] = refl
-texts_lex n m false [] = refl
-texts_lex n m true (b ∷ bs) =
-    texts_if (nat_eq b 10) (lex (n + 1) false bs) (lex (n + 1) true bs) (lex (m + 1) false bs) (lex (m + 1) true bs) (texts_lex (n + 1) (m + 1) false bs) (texts_lex (n + 1) (m + 1) true bs)
-texts_lex n m false (b ∷ bs) =
-    texts_if (is_atom_byte b) _ _ _ _ (texts_before n m b (begins_atom bs) (lex (n + 1) false bs) (lex (m + 1) false bs) (texts_lex (n + 1) (m + 1) false bs))
-    (texts_if (nat_eq b 59) _ _ _ _ (texts_lex (n + 1) (m + 1) true bs)
-    (texts_if (is_blank b) _ _ _ _ (texts_lex (n + 1) (m + 1) false bs) (ap (λ ts. single b ∷ ts) (texts_lex (n + 1) (m + 1) false bs))))
-
 -- what is printed
 
 item_good : (x : CertItem) (rest : List Text) → IsWithinU32 x → AreGood rest → AreGood (item_tokens x rest)
@@ -187,6 +160,6 @@ dropped (x ∷ xs) ys = dropped xs ys
 pub printed_read : (is : Items) → AreSmall is → IsReadBack is
 printed_read is h before =
     let t : texts (left (length before) (before ++ cert_text is)) ≡ cert_tokens is =
-    ap (λ bs. texts (lex (length before) false bs)) (dropped before (cert_text is)) ∙ texts_lex (length before) 0 false (cert_text is)
+    ap (λ bs. texts (lex (length before) false bs)) (dropped before (cert_text is)) ∙ texts_anywhere (length before) 0 false (cert_text is)
     ∙ spaced-read (cert_tokens is) (tt, (refl, (refl, items_good is h))) in
     certificate_read (length (before ++ cert_text is)) (left (length before) (before ++ cert_text is)) is t h

@@ -1,6 +1,6 @@
 -- What is kept of a block that was given has the same constructors, but for the sorts of their arguments; so a family that was given without constructors is kept so.
-use Rattle.std.proofs.Common.{ℕ, zero, suc, ◌≡◌, List, [], ◌∷◌, ◌++◌, map, reverse, Some, None, option_map, slice_get, refl, sym, ap, ◌∙◌, subst}
-use Rattle.std.proofs.lemmas.List.{reverse-append, reverse-reverse}
+use Rattle.std.proofs.Common.{ℕ, zero, suc, ◌≡◌, List, [], ◌∷◌, map, reverse, Some, None, option_map, slice_get, refl, sym, ap, ◌∙◌, subst}
+use Rattle.std.proofs.lemmas.List.{reverse-reverse}
 use Rattle.pc_terms.specs.declared.leaf.Name.{Name}
 use Rattle.pc_terms.specs.declared.leaf.FamilyId.{FamilyId}
 use Rattle.pc_terms.specs.Syntax.{Term}
@@ -8,7 +8,7 @@ use Rattle.calculus_rules.specs.declared.declaration.Block.{Block}
 use Rattle.calculus_rules.specs.declared.declaration.Family.{Family}
 use Rattle.calculus_rules.specs.declared.declaration.Kept.{Kept}
 use Rattle.calculus_rules.specs.declared.declaration.Kept.TheVariants.{Constant, Heads, Block as Whole}
-use Rattle.calculus_rules.specs.Environment.{Env, Has, here, there, with_parameters}
+use Rattle.calculus_rules.specs.Environment.{Env, Has, with_parameters}
 use Rattle.calculus_rules.proofs.Spines.{one_item}
 use Rattle.pc_rules.specs.DirectedDeclarations.{Given, GivenConstant, GivenBlock}
 use Rattle.rule_laws.specs.Declarations.{plain, plain_block, plain_family, plain_constructor, plain_given}
@@ -17,27 +17,7 @@ use Rattle.metatheory.specs.EmptyFamilies.{IsEmptyFamily}
 use Rattle.metatheory.proofs.EmptyFamilies.{empty_families_have_no_values}
 use Rattle.checked_laws.specs.CheckedFalse.{DeclaresEmpty, DeclaresNoAxiom, CheckedFalseHasNoValue, CheckedFalseNeverEnds}
 use Rattle.checked_laws.proofs.EmptyFamilies.{empty_families_never_end}
-use Rattle.calculus_rules.proofs.Listing.{has_map}
-
--- members of lists
-
-from_mapped : {X Y : Type 0} (g : X → Y) (xs : List X) {y : Y} → Has (map g xs) y → (x : X) × Has xs x × (g x ≡ y)
-from_mapped g [] h = elim h [ ]
-from_mapped g (x ∷ xs) here = (x, here, refl)
-from_mapped g (x ∷ xs) (there h) = let (y, m, e) = from_mapped g xs h in (y, there m, e)
-
-in_front : {X : Type 0} {xs : List X} (ys : List X) {z : X} → Has xs z → Has (xs ++ ys) z
-in_front ys here = here
-in_front ys (there h) = there (in_front ys h)
-
-at_end : {X : Type 0} (xs : List X) (z : X) → Has (xs ++ z ∷ []) z
-at_end [] z = here
-at_end (x ∷ xs) z = there (at_end xs z)
-
-has_reversed : {X : Type 0} (xs : List X) {z : X} → Has xs z → Has (reverse xs) z
-has_reversed [] h = elim h [ ]
-has_reversed (x ∷ xs) here = subst (λ ys. Has ys x) (sym (reverse-append (x ∷ []) xs)) (at_end (reverse xs) x)
-has_reversed (x ∷ xs) {z} (there h) = subst (λ ys. Has ys z) (sym (reverse-append (x ∷ []) xs)) (in_front (x ∷ []) (has_reversed xs h))
+use Rattle.calculus_rules.proofs.Listing.{has_map, of_has_map, has_turned}
 
 -- blocks that are the same without the sorts of their constructors' arguments
 
@@ -69,8 +49,8 @@ is_whole (Constant k T b) B e = absurd (cc)
 module _ (ds : List Given) (E : Env) (same : map plain E.declarations ≡ reverse (map plain_given ds)) where
   empty_kept : (f : FamilyId) → DeclaresEmpty ds f → IsEmptyFamily E f
   empty_kept f (B, has, name, (F, at, none)) =
-      let there : Has (map plain E.declarations) (Whole (plain_block B)) = subst (λ xs. Has xs (Whole (plain_block B))) (sym same) (has_reversed (map plain_given ds) (has_map plain_given has)) in
-      let (d, kept, is) = from_mapped plain E.declarations there in
+      let there : Has (map plain E.declarations) (Whole (plain_block B)) = subst (λ xs. Has xs (Whole (plain_block B))) (sym same) (has_turned (map plain_given ds) (has_map plain_given has)) in
+      let (d, kept, is) = of_has_map plain E.declarations there in
       let (D, whole, alike) = is_whole d (plain_block B) is in
       let (G, at', none') = family_there B.families D.families f.family F (ap (λ B. B.families) alike) at none in
       (with_parameters D.params G, (D, subst (Has E.declarations) whole kept, ap (λ B. B.name) alike ∙ name, ap (option_map (with_parameters D.params)) at'), none')
@@ -83,8 +63,8 @@ module _ (ds : List Given) (E : Env) (same : map plain E.declarations ≡ revers
   no_axioms_kept : DeclaresNoAxiom ds → HasNoAxioms E
   no_axioms_kept n k (T, has) =
       let back = subst (λ xs. Has xs (Constant k T None)) (reverse-reverse (map plain_given ds))
-      (has_reversed (reverse (map plain_given ds)) (subst (λ xs. Has xs (Constant k T None)) same (has_map plain has))) in
-      let (g, given, is) = from_mapped plain_given ds back in
+      (has_turned (reverse (map plain_given ds)) (subst (λ xs. Has xs (Constant k T None)) same (has_map plain has))) in
+      let (g, given, is) = of_has_map plain_given ds back in
       n k T (subst (Has ds) (given_axiom g k T is) given)
 
 pub checked_false_has_no_value : CheckedFalseHasNoValue

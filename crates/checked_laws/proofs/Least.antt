@@ -5,7 +5,7 @@ use Rattle.universe_levels.specs.declared.sort.Sort.{Sort}
 use Rattle.universe_levels.specs.Sorts.{super_sort, product_sort}
 use Rattle.pc_terms.specs.declared.leaf.Name.{Name}
 use Rattle.pc_terms.specs.declared.leaf.FamilyId.{FamilyId}
-use Rattle.pc_terms.specs.Syntax.{Term, Terms, Rel, SortT, Prod, Lambda, LetIn, App, Const, Ind, Construct, Case, Fix, put, substitute, apply, head, args, term_at}
+use Rattle.pc_terms.specs.Syntax.{Term, Terms, Rel, SortT, Prod, Lambda, LetIn, App, Const, Ind, Construct, Case, Fix, put, substitute, apply, head, args, term_at, list_of}
 use Rattle.calculus_rules.specs.declared.declaration.Constructor.{Constructor}
 use Rattle.calculus_rules.specs.declared.declaration.Block.{Block}
 use Rattle.calculus_rules.specs.declared.declaration.Kept.{Kept}
@@ -15,7 +15,6 @@ use Rattle.calculus_rules.specs.Environment.{Env, SortEntails, FamilyDecl, Keeps
 use Rattle.calculus_rules.specs.Context.{Context, values, type_at}
 use Rattle.calculus_rules.specs.Conversion.{same, back, Below, equal, product}
 use Rattle.calculus_rules.specs.Instances.{family_type, constructor_type, predicate_at, definitions}
-use Rattle.calculus_rules.specs.Listed.{list_of}
 use Rattle.calculus_rules.specs.Lookups.{kept_at, known_block, whole_block}
 use Rattle.calculus_rules.specs.Same as tree
 use Rattle.calculus_rules.specs.Typing.{bare, Types}

@@ -1,5 +1,6 @@
 -- The functions of a lifted program take the captured words.
-use Rattle.std.proofs.Common.{◌≡◌, ℕ, zero, suc, ◌+◌, ◌<◌, List, [], ◌∷◌, ◌++◌, length, Some, None, refl, subst as transport, arith}
+use Rattle.std.proofs.Common.{◌≡◌, ℕ, zero, suc, ◌+◌, ◌<◌, List, [], ◌∷◌, ◌++◌, length, Some, refl, subst as transport, arith}
+use Rattle.std.proofs.lemmas.Option.{none-some, same_Some}
 use Rattle.std.specs.Prelude.{slice_get}
 use Rattle.anf_convert.specs.Anf.{AnfOp, ConstOp, AppOp, ConOp, LamOp, FixOp, CaseOp, AnfBlock, TailAtom, Tail, BindAtom, Bind, AnfBranches, NoBranch, Branch, AnfDefs, NoDef, LamDef, BoxDef, AnfProgram, def_count}
 use Rattle.anf_convert.specs.Captured.{Scope, Outside, Plain, plains, shares, fix_captured}
@@ -22,14 +23,8 @@ module _ (most : ℕ) where
   few_split (x ∷ xs) ys h = let r = few_split xs ys h.1 in ((h.0, r.0), r.1)
 
   few_at : (fs : List Fn) (g : ℕ) (fn : Fn) → Few fs → slice_get fs g ≡ Some fn → fn.captured < most
-  few_at [] g fn h e = absurd (no e)
-    where
-      no : {f : Fn} → None ≡ Some f → ⊥
-      no e = cc
-  few_at (f ∷ fs) zero fn h e = transport (λ (z : Fn). z.captured < most) (same e) h.0
-    where
-      same : {x y : Fn} → Some x ≡ Some y → x ≡ y
-      same e = cc
+  few_at [] g fn h e = absurd (none-some fn e)
+  few_at (f ∷ fs) zero fn h e = transport (λ (z : Fn). z.captured < most) (same_Some _ _ e) h.0
   few_at (f ∷ fs) (suc g) fn h e = few_at fs g fn h.1 e
 
   few_all : (fs : List Fn) → ((g : ℕ) (fn : Fn) → slice_get fs g ≡ Some fn → fn.captured < most) → Few fs

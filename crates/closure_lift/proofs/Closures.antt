@@ -2,6 +2,7 @@
 use Rattle.std.proofs.Common.{◌≡◌, ℕ, zero, suc, ◌+◌, ◌<◌, ◌≤◌, List, [], ◌∷◌, map, length, Some, Bool, true, false, refl, sym, ap, ◌∙◌, subst as transport, arith}
 use Rattle.std.proofs.lemmas.Bool.{eq-eqb, eqb-true}
 use Rattle.std.proofs.lemmas.List.{length-map}
+use Rattle.std.proofs.lemmas.Option.{same_Some}
 use Rattle.std.specs.Prelude.{get_or, nat_eq}
 use Rattle.anf_convert.specs.Anf.{def_count}
 use Rattle.anf_convert.specs.declared.program.Atom.{Atom}
@@ -62,9 +63,6 @@ entry_below (Shared ws s) zero e = absurd (no_word e)
     no_word e = cc
 entry_below (Shared ws s) (suc i) e = entry_below s i e
 
-some_anf : {u v : AnfVal} → Some u ≡ Some v → u ≡ v
-some_anf e = cc
-
 module _ (P : Program) (w : ℕ) where
   -- the closure of variable i, whose value this is
   pub record Good (fr : List LiftSlot) (le : Vals) (i : ℕ) (v : AnfVal) : Type 0 where
@@ -77,7 +75,7 @@ module _ (P : Program) (w : ℕ) where
   good_made e fr le i v u at g j v' at' h = go (nat_eq j i) refl
     where
       go : (b : Bool) → nat_eq j i ≡ b → Good (Made i ∷ fr) (VCons u le) j v'
-      go true eq = record { u = u; at = rw eq refl; is = transport (λ z. VR P z u) (some_anf (sym at ∙ ap (find e) (sym (eqb-true j i eq)) ∙ at')) g }
+      go true eq = record { u = u; at = rw eq refl; is = transport (λ z. VR P z u) (same_Some _ _ (sym at ∙ ap (find e) (sym (eqb-true j i eq)) ∙ at')) g }
       go false eq = record { u = h.u; at = rw eq h.at; is = h.is }
 
   -- after the closure for an atom

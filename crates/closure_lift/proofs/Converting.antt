@@ -11,13 +11,13 @@ use Rattle.anf_convert.specs.declared.program.AnfProgram.{AnfProgram}
 use Rattle.closure_lift.specs.Lifted.{Block, Program}
 use Rattle.closure_lift.specs.LiftedView.{functions_of}
 use Rattle.closure_lift.specs.LiftedProgram.{place_in, lifted_of}
-use Rattle.closure_lift.specs.LiftedForm.{Limits}
+use Rattle.closure_lift.specs.LiftedForm.{Limits, most_functions}
 use Rattle.closure_lift.specs.LiftKeeps.{KeepsLifted, HasLiftedForm}
 use Rattle.closure_lift.specs.Lift.{block_functions, constants_functions, lift_block, functions_block, functions_constants, lift}
 use Rattle.closure_lift.specs.FreeVariables.{notes_block}
 use Rattle.closure_lift.specs.Lifting.{Stand, LiftRefuses, most_words}
 use Rattle.closure_lift.specs.CapturedLimit.{BlockCaptures, BlocksCapture, ProgramCaptures}
-use Rattle.closure_lift.specs.NamedLift.{bodies, named_constants, named_lift, constants_notes, most_functions, put_parts, IsCrowded, IsLifted, HasConstantsOf, HasFewFunctions, LiftIsRefused}
+use Rattle.closure_lift.specs.NamedLift.{bodies, named_constants, named_lift, constants_notes, put_parts, IsCrowded, IsLifted, HasConstantsOf, HasFewFunctions, LiftIsRefused}
 use Rattle.closure_lift.specs.declared.fault.LiftFault.{LiftFault}
 use Rattle.closure_lift.specs.declared.fault.LiftFault.TheVariants.{Captured, Functions, Memory}
 use Rattle.closure_lift.specs.declared.program.LiftedConstant.{LiftedConstant}

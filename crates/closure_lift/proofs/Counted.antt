@@ -1,6 +1,6 @@
 -- How many items the lists of a lifted program have.
 use Rattle.std.proofs.Common.{◌≡◌, ℕ, suc, List, [], ◌∷◌, ◌++◌, length, refl, ap}
-use Rattle.closure_lift.specs.Lifted.{Fn, many}
+use Rattle.closure_lift.specs.Lifted.{Fn, branch_count}
 use Rattle.closure_lift.specs.LiftedView.{seen, bounds_of, branches_of, fn_of, functions_of}
 use Rattle.closure_lift.specs.LiftedProgram.{renumber_functions}
 use Rattle.closure_lift.specs.declared.program.LiftedOp.{LiftedOp}
@@ -11,7 +11,7 @@ pub bounds_length : (os : List LiftedOp) → length os ≡ length (bounds_of os)
 bounds_length [] = refl
 bounds_length (o ∷ os) = ap suc (bounds_length os)
 
-pub branches_many : (bs : List LiftedBranch) → length bs ≡ many (branches_of bs)
+pub branches_many : (bs : List LiftedBranch) → length bs ≡ branch_count (branches_of bs)
 branches_many [] = refl
 branches_many (b ∷ bs) = ap suc (branches_many bs)
 

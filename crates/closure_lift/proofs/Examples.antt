@@ -2,7 +2,8 @@
 use Rattle.std.proofs.Common.{◌≡◌, ℕ, [], ◌∷◌, refl}
 use Rattle.anf_convert.specs.Anf.{AppOp, LamOp, FixOp, AnfBlock, Tail, Bind, NoDef, LamDef, BoxDef, AnfProgram}
 use Rattle.anf_convert.specs.declared.program.Atom.TheVariants.{Var as AVar, Box as ABox}
-use Rattle.closure_lift.specs.Lifted.{OApp, OClos, Block, RetAtom, Ret, Let, Fn}
+use Rattle.closure_lift.specs.Lifted.{ClosOp, Block, TailAtom, Fn}
+use Rattle.closure_lift.specs.Lifted as lifted
 use Rattle.closure_lift.specs.Lift.{lift}
 
 abbrev of_main : AnfBlock → AnfProgram
@@ -15,11 +16,11 @@ fn n t = record { captured = n; body = t }
 three : lift (of_main (Tail (LamOp (Tail (LamOp (Tail (LamOp (Bind (AppOp (AVar 0) (AVar 1)) (Tail (AppOp (AVar 0) (AVar 3)))))))))))
     ≡ record {
       functions =
-          fn 0 (Ret (OClos 1 (AVar 0 ∷ []))) ∷
-          fn 1 (Ret (OClos 2 (AVar 0 ∷ AVar 1 ∷ []))) ∷
-          fn 2 (Let (OApp (AVar 0) (AVar 1)) (Ret (OApp (AVar 0) (AVar 3)))) ∷ [];
+          fn 0 (lifted.Tail (ClosOp 1 (AVar 0 ∷ []))) ∷
+          fn 1 (lifted.Tail (ClosOp 2 (AVar 0 ∷ AVar 1 ∷ []))) ∷
+          fn 2 (lifted.Bind (lifted.AppOp (AVar 0) (AVar 1)) (lifted.Tail (lifted.AppOp (AVar 0) (AVar 3)))) ∷ [];
       constants = [];
-      main = Ret (OClos 0 []);
+      main = lifted.Tail (ClosOp 0 []);
     }
 three = refl
 
@@ -27,11 +28,11 @@ three = refl
 recursive : lift (of_main (Tail (LamOp (Tail (FixOp (LamDef (Tail (LamOp (Tail (AppOp (AVar 2) (AVar 3))))) NoDef) 0)))))
     ≡ record {
       functions =
-          fn 0 (Ret (OClos 1 (AVar 0 ∷ []))) ∷
-          fn 1 (Ret (OClos 2 (AVar 1 ∷ []))) ∷
-          fn 1 (Let (OClos 1 (AVar 1 ∷ [])) (Ret (OApp (AVar 0) (AVar 2)))) ∷ [];
+          fn 0 (lifted.Tail (ClosOp 1 (AVar 0 ∷ []))) ∷
+          fn 1 (lifted.Tail (ClosOp 2 (AVar 1 ∷ []))) ∷
+          fn 1 (lifted.Bind (ClosOp 1 (AVar 1 ∷ [])) (lifted.Tail (lifted.AppOp (AVar 0) (AVar 2)))) ∷ [];
       constants = [];
-      main = Ret (OClos 0 []);
+      main = lifted.Tail (ClosOp 0 []);
     }
 recursive = refl
 
@@ -39,11 +40,11 @@ recursive = refl
 mutual_three : lift (of_main (Tail (FixOp (LamDef (Tail (AppOp (AVar 2) (AVar 0))) (LamDef (Tail (LamOp (Tail (AppOp (AVar 4) (AVar 0))))) (BoxDef NoDef))) 1)))
     ≡ record {
       functions =
-          fn 0 (Let (OClos 1 []) (Ret (OApp (AVar 0) (AVar 1)))) ∷
-          fn 0 (Ret (OClos 3 [])) ∷
-          fn 0 (RetAtom ABox) ∷
-          fn 0 (Let (OClos 0 []) (Ret (OApp (AVar 0) (AVar 1)))) ∷ [];
+          fn 0 (lifted.Bind (ClosOp 1 []) (lifted.Tail (lifted.AppOp (AVar 0) (AVar 1)))) ∷
+          fn 0 (lifted.Tail (ClosOp 3 [])) ∷
+          fn 0 (TailAtom ABox) ∷
+          fn 0 (lifted.Bind (ClosOp 0 []) (lifted.Tail (lifted.AppOp (AVar 0) (AVar 1)))) ∷ [];
       constants = [];
-      main = Ret (OClos 1 []);
+      main = lifted.Tail (ClosOp 1 []);
     }
 mutual_three = refl

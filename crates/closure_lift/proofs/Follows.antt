@@ -1,12 +1,14 @@
 -- The lifted program follows the evaluation of the program in A-normal form.
-use Rattle.std.proofs.Common.{◌≡◌, ℕ, suc, ◌+◌, ◌<◌, ◌≤◌, List, [], ◌∷◌, length, Some, refl, sym, ap, ◌∙◌, subst as transport, arith}
+use Rattle.std.proofs.Common.{◌≡◌, ℕ, suc, ◌+◌, ◌<◌, ◌≤◌, List, [], ◌∷◌, length, refl, sym, ap, ◌∙◌, subst as transport, arith}
 use Rattle.std.proofs.lemmas.List.{length-map}
+use Rattle.std.proofs.lemmas.Option.{same_Some}
 use Rattle.anf_convert.specs.Anf.{AnfOp, AppOp, CaseOp, AnfBlock, TailAtom, BindAtom, Bind, AnfBranches, AnfDefs, AnfProgram, def_count}
 use Rattle.anf_convert.specs.declared.program.Atom.{Atom}
 use Rattle.anf_convert.specs.declared.program.Atom.TheVariants.{Var as AVar}
 use Rattle.anf_convert.specs.Captured.{Scope, Outside, Plain, depth, Word, Words, plains, shares, atom_words, atoms_words, op_words, block_words, branches_words, defs_words, lam_captured, fix_captured}
 use Rattle.anf_convert.specs.AnfEvaluation.{AnfVal, WBox, WCon, WClos, WFix, AnfVals, WNil, WCons, count, ◌+w◌, fixes, LamAt, BoxAt, AnfBranchAt, at_branch, after_branch, Gives, give_word, give_fix, give_none, give_more, AnfDoes, op_const, op_app, op_app_box, op_app_fix, op_app_fix_box, op_con, op_lam, op_fix, op_case, AnfGets, block_atom, block_op, block_let, block_bind, AnfAnswers, main_alone, main_applied}
-use Rattle.closure_lift.specs.Lifted.{OApp, Block, RetAtom, LetAtom, Ret, Let, Program, Val, VBox, VCon, VClos, Vals, VNil, VCons, size, ◌+v◌, BranchAt, Is, is_var, is_box, AllAre, are_none, are_more, Does, do_const, do_app, do_box_app, do_con, do_clos, do_case, Gets, gets_atom, gets_let_atom, gets_ret, gets_let, LiftedAnswers, answers_alone, answers_applied}
+use Rattle.closure_lift.specs.Lifted.{Block, Tail, Program, Val, VBox, VCon, VClos, Vals, VNil, VCons, size, ◌+v◌, BranchAt, Is, is_var, is_box, AllAre, are_none, are_more, Does, do_const, do_app, do_box_app, do_con, do_clos, do_case, Gets, gets_atom, gets_let_atom, gets_ret, gets_let, LiftedAnswers, answers_alone, answers_applied}
+use Rattle.closure_lift.specs.Lifted as lifted
 use Rattle.closure_lift.specs.Lift.{LiftSlot, Holds, held, atom, closures, atoms_of, op_functions, unnumbered, numbered, holding, lift_op, lift_block, lift_branches, functions_op, functions_block, functions_branches, constants_functions, lift}
 use Rattle.anf_convert.specs.AnfData.{DataTree, DataTrees, AnfIsData, anf_data, AnfAreData, anf_data_none, anf_data_more}
 use Rattle.closure_lift.specs.LiftKeeps.{IsData, is_data, AreData, are_data_none, are_data_more, LiftKeeps}
@@ -15,9 +17,6 @@ use Rattle.anf_convert.proofs.Scopes.{Each, each_split, each_join, each_all, cap
 use Rattle.closure_lift.proofs.Placed.{Placed, front, back, rest, first, def_length, then_block, branch_placed, def_placed, box_placed, constant_placed, main_placed}
 use Rattle.closure_lift.proofs.Related.{word_in, VR, vr_box, vr_con, vr_clos, vr_fix, VRs, vrs_nil, vrs_cons, vrs_size, ER, er_nil, carries_size, er_captured, capture, er_push, er_pushes, pushes_size, er_fixes}
 use Rattle.closure_lift.proofs.Closures.{Grown, grown_same, grown_size, grown_covers, grown_er, counted, Ready, ready}
-
-some_anf : {u v : AnfVal} → Some u ≡ Some v → u ≡ v
-some_anf e = cc
 
 not_words : {x : ℕ} {ws : List ℕ} → Word x ≡ Words ws → ⊥
 not_words e = cc
@@ -75,7 +74,7 @@ module _ (Q : AnfProgram) (w : ℕ) where
     u : Val
     is : VR P r u
     c' : ℕ
-    does : Does P w le (OApp f a) u c' k b l
+    does : Does P w le (lifted.AppOp f a) u c' k b l
     le_c : c' ≤ c
 
   -- what is known of a block, wherever it stands
@@ -143,7 +142,7 @@ module _ (Q : AnfProgram) (w : ℕ) where
     where
       go : {us : Vals} → AllAre y.le' (atom s y.fr' a ∷ []) us → VRs P (WCons v WNil) us → Got le (lift_block s gs fr g (TailAtom a)) v 0 0 b l
       go (are_more {v = u} isa are_none) (vrs_cons related vrs_nil) =
-          record { u = u; is = related; c' = 0; gets = counted refl refl (omega arith) (omega arith) (y.wrap (λ fr'. RetAtom (atom s fr' a)) u 0 0 0 0 (gets_atom isa)); le_c = omega arith }
+          record { u = u; is = related; c' = 0; gets = counted refl refl (omega arith) (omega arith) (y.wrap (λ fr'. lifted.TailAtom (atom s fr' a)) u 0 0 0 0 (gets_atom isa)); le_c = omega arith }
 
   let_got : {s : Scope} {gs : List ℕ} {e : AnfVals} {fr : List LiftSlot} {le : Vals} {a : Atom} {v r : AnfVal} {c k b l : ℕ} (t : AnfBlock) (b1 l1 g : ℕ) (y : Ready P w s gs e fr le (a ∷ []) (WCons v WNil) (b1 + 0) (l1 + 0)) → ER P (word_in y.fr'
       y.le') s gs e → size y.le' ≡ length y.fr' → Covers y.fr' (depth s) (block_words (Plain s) t) → Placed (functions_block (Plain s) (0 ∷ gs) g t) g P.functions → Follows (Plain s) (WCons v e) t r c k b l → Got le (lift_block s gs fr g (BindAtom a t)) r (suc c) k (b1 + b) (l1 + l)
@@ -152,7 +151,7 @@ module _ (Q : AnfProgram) (w : ℕ) where
       go : {us : Vals} → AllAre y.le' (atom s y.fr' a ∷ []) us → VRs P (WCons v WNil) us → Got le (lift_block s gs fr g (BindAtom a t)) r (suc c) k (b1 + b) (l1 + l)
       go (are_more {v = u} isa are_none) (vrs_cons related vrs_nil) =
           let x = next (0 ∷ gs) (Holds (depth s) ∷ y.fr') (VCons u y.le') g (er_push y.fr' y.le' er related) (ap suc eq) (covers_bind s y.fr' (block_words (Plain s) t) cov) p in
-          record { u = x.u; is = x.is; c' = suc x.c'; gets = counted refl refl (omega arith) (omega arith) (y.wrap (λ fr'. LetAtom (atom s fr' a) (lift_block (Plain s) (0 ∷ gs) (Holds (depth s) ∷ fr') g t)) x.u (suc x.c') k b l (gets_let_atom isa x.gets)); le_c = omega (arith, x.le_c) }
+          record { u = x.u; is = x.is; c' = suc x.c'; gets = counted refl refl (omega arith) (omega arith) (y.wrap (λ fr'. lifted.BindAtom (atom s fr' a) (lift_block (Plain s) (0 ∷ gs) (Holds (depth s) ∷ fr') g t)) x.u (suc x.c') k b l (gets_let_atom isa x.gets)); le_c = omega (arith, x.le_c) }
 
   bind_got : {s : Scope} {gs : List ℕ} {fr : List LiftSlot} {le : Vals} {g : ℕ} {op : AnfOp} {v r : AnfVal} {c c1 k k1 b b1 l l1 : ℕ} (t : AnfBlock) (h : Did s gs fr le g op v c1 k1 b1 l1) → Got (VCons h.u h.le') (lift_block (Plain s) (0 ∷ gs) (Holds (depth s) ∷ h.fr')
       (g + op_functions op) t) r c k b l → Got le (lift_block s gs fr g (Bind op t)) r (c1 + c) (k1 + k) (b1 + b) (l1 + l)
@@ -162,7 +161,7 @@ module _ (Q : AnfProgram) (w : ℕ) where
         is = x.is;
         c' = h.c' + x.c';
         gets = counted refl refl (omega (arith, h.blocks)) (omega (arith, h.words))
-            (h.wrap (λ fr'. Let (lift_op s gs fr' g op) (lift_block (Plain s) (0 ∷ gs) (Holds (depth s) ∷ fr') (g + op_functions op) t)) x.u (h.c' + x.c') (k1 + k) (h.b2 + b) (h.l2 + l) (gets_let h.does x.gets));
+            (h.wrap (λ fr'. lifted.Bind (lift_op s gs fr' g op) (lift_block (Plain s) (0 ∷ gs) (Holds (depth s) ∷ fr') (g + op_functions op) t)) x.u (h.c' + x.c') (k1 + k) (h.b2 + b) (h.l2 + l) (gets_let h.does x.gets));
         le_c = omega (arith, h.le_c, x.le_c);
       }
 
@@ -238,7 +237,7 @@ module _ (Q : AnfProgram) (w : ℕ) where
     follows {s} (block_atom {a = a} h) gs fr le g er eq cov p = atom_got g (ready P w fr le (give_more h give_none) er eq (one_atom fr s a cov))
     follows {s} (block_op {op = op} {k = k} d) gs fr le g er eq cov p =
         let h = follows_op d gs fr le g er eq cov p in
-        record { u = h.u; is = h.is; c' = h.c'; gets = counted refl refl h.blocks h.words (h.wrap (λ fr'. Ret (lift_op s gs fr' g op)) h.u h.c' k h.b2 h.l2 (gets_ret h.does)); le_c = h.le_c }
+        record { u = h.u; is = h.is; c' = h.c'; gets = counted refl refl h.blocks h.words (h.wrap (λ fr'. Tail (lift_op s gs fr' g op)) h.u h.c' k h.b2 h.l2 (gets_ret h.does)); le_c = h.le_c }
     follows {s} (block_let {a = a} {t = t} {b1 = b1} {l1 = l1} h d) gs fr le g er eq cov p =
         let parts = each_split (λ x. x < depth s → In (Holds x) fr) (atom_words s a) _ cov in
         let y = ready P w fr le (give_more h give_none) er eq (one_atom fr s a parts.0) in
@@ -285,15 +284,15 @@ module _ (Q : AnfProgram) (w : ℕ) where
     no_word : l ≡ 0
 
   fun_is : {a v x : AnfVal} {b l : ℕ} → Gives w (Plain (Plain Outside)) (WCons a (WCons v WNil)) (AVar 1) x b l → Same x v b l
-  fun_is (give_word is at) = record { value = some_anf at; no_block = refl; no_word = refl }
+  fun_is (give_word is at) = record { value = same_Some _ _ at; no_block = refl; no_word = refl }
   fun_is (give_fix is at few) = absurd (not_words is)
 
   arg_is : {a v x : AnfVal} {b l : ℕ} → Gives w (Plain (Plain Outside)) (WCons a (WCons v WNil)) (AVar 0) x b l → Same x a b l
-  arg_is (give_word is at) = record { value = some_anf at; no_block = refl; no_word = refl }
+  arg_is (give_word is at) = record { value = same_Some _ _ at; no_block = refl; no_word = refl }
   arg_is (give_fix is at few) = absurd (not_words is)
 
   called_same : {le : Vals} {f a : Atom} {r : AnfVal} {c k b l b' l' : ℕ} → b ≡ b' → l ≡ l' → Called le f a r c k b l → Called le f a r c k b' l'
-  called_same {le} {f} {a} {k = k} {b} {l} {b'} {l'} eb el h = record { u = h.u; is = h.is; c' = h.c'; does = transport (λ z. Does P w le (OApp f a) h.u h.c' k b' z) el (transport (λ z. Does P w le (OApp f a) h.u h.c' k z l) eb h.does); le_c = h.le_c }
+  called_same {le} {f} {a} {k = k} {b} {l} {b'} {l'} eb el h = record { u = h.u; is = h.is; c' = h.c'; does = transport (λ z. Does P w le (lifted.AppOp f a) h.u h.c' k b' z) el (transport (λ z. Does P w le (lifted.AppOp f a) h.u h.c' k z l) eb h.does); le_c = h.le_c }
 
   -- a value is applied to a value
   applied : {a v r : AnfVal} {c k b l : ℕ} (u1 u2 : Val) → AnfDoes Q w (Plain (Plain Outside)) (WCons a (WCons v WNil)) (AppOp (AVar 1) (AVar 0)) r c k b l → VR P v u1 → VR P a u2 → Called (VCons u2 (VCons u1 VNil)) (AVar 1) (AVar 0) r c k b l

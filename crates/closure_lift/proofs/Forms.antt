@@ -1,14 +1,16 @@
 -- The names of a lifted program are in scope.
-use Rattle.std.proofs.Common.{◌≡◌, ℕ, zero, suc, ◌+◌, ◌<◌, List, [], ◌∷◌, ◌++◌, map, length, Some, None, Bool, true, false, refl, sym, ap, ◌∙◌, subst, subst as transport, arith}
+use Rattle.std.proofs.Common.{◌≡◌, ℕ, zero, suc, ◌+◌, ◌<◌, List, [], ◌∷◌, ◌++◌, map, length, Some, Bool, true, false, refl, sym, ap, ◌∙◌, subst, subst as transport, arith}
 use Rattle.std.proofs.lemmas.Bool.{eq-eqb}
 use Rattle.std.proofs.lemmas.List.{length-map}
+use Rattle.std.proofs.lemmas.Option.{none-some, same_Some}
 use Rattle.std.specs.Prelude.{slice_get, get_or, if◌then◌else◌}
 use Rattle.anf_convert.specs.Anf.{AnfOp, ConstOp, AppOp, ConOp, LamOp, FixOp, CaseOp, AnfBlock, TailAtom, Tail, BindAtom, Bind, AnfBranches, NoBranch, Branch, AnfDefs, NoDef, LamDef, BoxDef, def_count}
 use Rattle.anf_convert.specs.declared.program.Atom.{Atom}
 use Rattle.anf_convert.specs.declared.program.Atom.TheVariants.{Var as AVar, Box as ABox, Empty as AEmpty}
 use Rattle.anf_convert.specs.AnfEvaluation.{LamAt, lam_here, lam_after_lam, lam_after_box}
 use Rattle.anf_convert.specs.Captured.{Scope, Outside, Plain, Shared, depth, Entry, Unbound, Word, Words, entry, plains, shares, words_of, atom_words, atoms_words, op_words, block_words, branches_words, defs_words, lam_captured, fix_captured}
-use Rattle.closure_lift.specs.Lifted.{Block, Fn, many}
+use Rattle.closure_lift.specs.Lifted.{Block, Fn}
+use Rattle.closure_lift.specs.Lifted as lifted
 use Rattle.closure_lift.specs.Lift.{LiftSlot, Holds, Made, same_slot, position, held, variable, atom, closure_for, closures, atoms_of, op_functions, block_functions, unnumbered, numbered, holding, lift_op, lift_block, lift_branches, lambda_function, def_functions, functions_op, functions_block, functions_branches, functions_defs, constants_functions, lift_constants, functions_constants, lift}
 use Rattle.anf_convert.specs.AnfForm.{branch_count, AtomFits, AtomsFit, AnfOpFits, AnfFits, AnfBranchesFit, DefsFit}
 use Rattle.closure_lift.specs.LiftedForm.{IsMadeWith, OpFits, LiftedBlockFits, BranchesFit}
@@ -65,7 +67,7 @@ held_fit : (fr : List LiftSlot) (xs : List ℕ) → Each (λ x. In (Holds x) fr)
 held_fit fr [] h = tt
 held_fit fr (x ∷ xs) h = (place_below (Holds x) fr h.0, held_fit fr xs h.1)
 
-pub many_lifted : (s : Scope) (gs : List ℕ) (fr : List LiftSlot) (g : ℕ) (bs : AnfBranches) → many (lift_branches s gs fr g bs) ≡ branch_count bs
+pub many_lifted : (s : Scope) (gs : List ℕ) (fr : List LiftSlot) (g : ℕ) (bs : AnfBranches) → lifted.branch_count (lift_branches s gs fr g bs) ≡ branch_count bs
 many_lifted s gs fr g NoBranch = refl
 many_lifted s gs fr g (Branch n t rest) = ap suc (many_lifted s gs fr (g + block_functions t) rest)
 
@@ -209,14 +211,8 @@ module _ (fs : List Fn) (k m : ℕ) where
   every_join (x ∷ xs) ys h g = (h.0, every_join xs ys h.1 g)
 
   pub every_at : (xs : List Fn) (i : ℕ) (fn : Fn) → Every xs → slice_get xs i ≡ Some fn → FnFits fn
-  every_at [] i fn h e = absurd (no e)
-    where
-      no : {f : Fn} → None ≡ Some f → ⊥
-      no e = cc
-  every_at (x ∷ xs) zero fn h e = subst FnFits (same e) h.0
-    where
-      same : {f g : Fn} → Some f ≡ Some g → f ≡ g
-      same e = cc
+  every_at [] i fn h e = absurd (none-some fn e)
+  every_at (x ∷ xs) zero fn h e = subst FnFits (same_Some _ _ e) h.0
   every_at (x ∷ xs) (suc i) fn h e = every_at xs i fn h.1 e
 
   lambda_fits : {s : Scope} {gs : List ℕ} (n : ℕ) (ws : List ℕ) (g : ℕ) (b : AnfBlock) → Known fs s gs → Covers (Holds (depth s) ∷ holds_all ws) (suc (depth s)) (block_words (Plain s) b) → AnfFits k m n b → Placed (functions_block (Plain s) (0 ∷ gs) g b) g fs → FnFits (lambda_function s gs ws g b)
@@ -271,14 +267,8 @@ module _ (fs : List Fn) (k m : ℕ) where
       every_join (functions_block Outside [] g t) _ (block_functions_fit 0 g t known_nil (fit 0 t refl) (front _ _ p)) (constants_fit (g + block_functions t) ts (λ x u e. fit (suc x) u e) (back _ _ (omega (arith, block_length Outside [] g t)) p))
 
   pub constant_fits : (g : ℕ) (ts : List AnfBlock) → ((x : ℕ) (t : AnfBlock) → slice_get ts x ≡ Some t → AnfFits k m 0 t) → Placed (functions_constants g ts) g fs → (x : ℕ) (t : Block) → slice_get (lift_constants g ts) x ≡ Some t → LiftedBlockFits fs k m 0 t
-  constant_fits g [] fit p x t e = absurd (no e)
-    where
-      no : {u : Block} → None ≡ Some u → ⊥
-      no e = cc
-  constant_fits g (u ∷ ts) fit p zero t e = subst (LiftedBlockFits fs k m 0) (same e) (block_fits 0 [] g u known_nil (covers_none (block_words Outside u)) (fit 0 u refl) (front _ _ p))
-    where
-      same : {x y : Block} → Some x ≡ Some y → x ≡ y
-      same e = cc
+  constant_fits g [] fit p x t e = absurd (none-some t e)
+  constant_fits g (u ∷ ts) fit p zero t e = subst (LiftedBlockFits fs k m 0) (same_Some _ _ e) (block_fits 0 [] g u known_nil (covers_none (block_words Outside u)) (fit 0 u refl) (front _ _ p))
   constant_fits g (u ∷ ts) fit p (suc x) t e = constant_fits (g + block_functions u) ts (λ x u e. fit (suc x) u e) (back _ _ (omega (arith, block_length Outside [] g u)) p) x t e
 
 pub constants_number : (g : ℕ) (ts : List AnfBlock) → length (lift_constants g ts) ≡ length ts

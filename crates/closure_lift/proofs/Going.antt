@@ -6,7 +6,8 @@ use Rattle.anf_convert.specs.Anf.{AnfBlock, AnfBranches, Branch, AnfDefs, NoDef,
 use Rattle.anf_convert.specs.declared.program.Atom.{Atom}
 use Rattle.anf_convert.specs.declared.program.Atom.TheVariants.{Var as AVar, Box as ABox, Empty as AEmpty}
 use Rattle.anf_convert.specs.Captured.{Scope, Plain, depth, plains, Entry, Unbound, Word, Words, entry}
-use Rattle.closure_lift.specs.Lifted.{Block, RetAtom, Bound, lets_of, ret_of, Fn, BranchBlocks, BNil, BCons}
+use Rattle.closure_lift.specs.Lifted.{Block, TailAtom, Bound, Fn, BranchBlocks, NoBranch}
+use Rattle.closure_lift.specs.Lifted as lifted
 use Rattle.closure_lift.specs.Lift.{LiftSlot, Holds, Made, block_functions, lift_block, lift_branches, functions_block, functions_branches, def_functions, functions_defs, unnumbered, holding}
 use Rattle.closure_lift.specs.LiftedView.{functions_of, branches_of as lifted_branches}
 use Rattle.closure_lift.specs.FreeVariables.{size, notes_block, notes_branches, notes_defs}
@@ -24,7 +25,7 @@ use Rattle.closure_lift.proofs.Steps.{lets_join, block_step, block_end, function
 
 -- the block t0 was begun with the variables v0 where fr0 was held and fs0 were the functions; i bindings are done, with this code, and t is left
 pub record BlockGoes (notes : List (List ℕ)) (v0 : Scope × List ℕ) (fr0 : List LiftSlot) (fs0 : List Function) (t0 : AnfBlock) (i : ℕ) (v : Scope × List ℕ) (fr : List LiftSlot) (fs : List Function) (code : List Bound) (t : AnfBlock) : Type 0 where
-  pub block : lets_of code (lift_block v.0 v.1 fr (length fs) t) ≡ lift_block v0.0 v0.1 fr0 (length fs0) t0
+  pub block : lifted.block_of code (lift_block v.0 v.1 fr (length fs) t) ≡ lift_block v0.0 v0.1 fr0 (length fs0) t0
   pub functions : functions_of fs ++ functions_block v.0 v.1 (length fs) t ≡ functions_of fs0 ++ functions_block v0.0 v0.1 (length fs0) t0
   pub stand : Stand notes (length fs) (notes_block (size v.0) t)
   pub captures : BlockCaptures most_words v.0 t → BlockCaptures most_words v0.0 t0
@@ -35,7 +36,7 @@ pub record BlockGoes (notes : List (List ℕ)) (v0 : Scope × List ℕ) (fr0 : L
 
 abbrev pub arms_before : List LiftedBranch → BranchBlocks → BranchBlocks
 arms_before [] bs = bs
-arms_before (b ∷ arms) bs = BCons b.binders b.body (arms_before arms bs)
+arms_before (b ∷ arms) bs = lifted.Branch b.binders b.body (arms_before arms bs)
 
 pub record ArmsGo (notes : List (List ℕ)) (v0 : Scope × List ℕ) (fr0 : List LiftSlot) (fs0 : List Function) (bs0 : AnfBranches) (v : Scope × List ℕ) (fr : List LiftSlot) (fs : List Function) (arms : List LiftedBranch) (bs : AnfBranches) : Type 0 where
   pub code : arms_before arms (lift_branches v.0 v.1 fr (length fs) bs) ≡ lift_branches v0.0 v0.1 fr0 (length fs0) bs0
@@ -117,8 +118,8 @@ module _ (notes : List (List ℕ)) (v0 : Scope × List ℕ) (fr0 : List LiftSlot
       stand_after notes (length fs) (length fs + bound_functions p) (notes_bound (size v.0) p) (notes_block (suc (size v.0)) (block_of ps t)) (let z = bound_noted (size v.0) p in omega arith)
       (transport (Stand notes (length fs)) (notes_step (size v.0) p ps t) h.stand) in
       record {
-        block = ap (λ z. lets_of z (lift_block v2.0 v2.1 fr2 (length fs1) (block_of ps t))) ecode ∙ ap (lets_of (code ++ (cl ++ o1 ∷ []))) erest ∙ lets_join code (cl ++ o1 ∷ []) rest
-            ∙ ap (lets_of code) (sym (block_step v.0 v.1 fr (length fs) p ps t)) ∙ h.block;
+        block = ap (λ z. lifted.block_of z (lift_block v2.0 v2.1 fr2 (length fs1) (block_of ps t))) ecode ∙ ap (lifted.block_of (code ++ (cl ++ o1 ∷ []))) erest ∙ lets_join code (cl ++ o1 ∷ []) rest
+            ∙ ap (lifted.block_of code) (sym (block_step v.0 v.1 fr (length fs) p ps t)) ∙ h.block;
         functions = part_more (functions_of fs) (functions_bound v.0 v.1 (length fs) p) (functions_block v2.0 v2.1 (length fs1) (block_of ps t)) en
             (functions_step v.0 v.1 (length fs) p ps t ∙ ap (λ z. functions_bound v.0 v.1 (length fs) p ++ z) (sym efun)) h.functions;
         stand = transport (λ g. Stand notes g (notes_block (size v2.0) (block_of ps t))) (sym g1) (transport (λ s. Stand notes (length fs + bound_functions p) (notes_block (size s) (block_of ps t))) (sym s2) st);
@@ -135,7 +136,7 @@ module _ (notes : List (List ℕ)) (v0 : Scope × List ℕ) (fr0 : List LiftSlot
           ap (λ (z : ℕ). let w : Scope × List ℕ = (outer z v2.0, drop z v2.1) in w) k ∙ ap (λ (z : Scope × List ℕ). let w : Scope × List ℕ = (outer (suc i) z.0, drop (suc i) z.1) in w) e
 
   pub record BlockEnds (v : Scope × List ℕ) (fr1 : List LiftSlot) (fs1 : List Function) (code1 : List Bound) (o : Bound) : Type 0 where
-    pub block : lets_of code1 (ret_of o) ≡ lift_block v0.0 v0.1 fr0 (length fs0) t0
+    pub block : lifted.block_of code1 (lifted.tail_of o) ≡ lift_block v0.0 v0.1 fr0 (length fs0) t0
     pub functions : functions_of fs1 ≡ functions_of fs0 ++ functions_block v0.0 v0.1 (length fs0) t0
     pub captures : BlockCaptures most_words v0.0 t0
     pub frame : drop (length fr1 - length fr0) fr1 ≡ fr0
@@ -151,7 +152,7 @@ module _ (notes : List (List ℕ)) (v0 : Scope × List ℕ) (fr0 : List LiftSlot
       let eo1 : o ≡ o1 = eo ∙ ap (λ z. lifted_bound v.0 v.1 z (length fs) p) ef in
       let up = closures_above v.0 fr (atoms_in p) in
       record {
-        block = ap (λ z. lets_of z (ret_of o)) ec ∙ ap (λ z. lets_of (code ++ cl) (ret_of z)) eo1 ∙ lets_join code cl (ret_of o1) ∙ ap (lets_of code) (sym (block_end v.0 v.1 fr (length fs) p)) ∙ h.block;
+        block = ap (λ z. lifted.block_of z (lifted.tail_of o)) ec ∙ ap (λ z. lifted.block_of (code ++ cl) (lifted.tail_of z)) eo1 ∙ lets_join code cl (lifted.tail_of o1) ∙ ap (lifted.block_of code) (sym (block_end v.0 v.1 fr (length fs) p)) ∙ h.block;
         functions = part_last (functions_of fs) en (functions_end v.0 v.1 (length fs) p) h.functions;
         captures = h.captures (captures_end v.0 p cap);
         frame = shrunk (up.more ++ h.above) fr1 (ef ∙ up.is ∙ ap (λ z. up.more ++ z) h.frame ∙ sym (append_assoc up.more h.above fr0));
@@ -167,9 +168,9 @@ module _ (notes : List (List ℕ)) (v0 : Scope × List ℕ) (fr0 : List LiftSlot
           let k : length fr1 - length fr0 ≡ length xs = omega arith in
           ap (λ k. drop k fr1) k ∙ ap (drop (length xs)) e ∙ over xs
 
-arms_join : (arms : List LiftedBranch) (b : LiftedBranch) (bs : BranchBlocks) → arms_before (arms ++ b ∷ []) bs ≡ arms_before arms (BCons b.binders b.body bs)
+arms_join : (arms : List LiftedBranch) (b : LiftedBranch) (bs : BranchBlocks) → arms_before (arms ++ b ∷ []) bs ≡ arms_before arms (lifted.Branch b.binders b.body bs)
 arms_join [] b bs = refl
-arms_join (a ∷ arms) b bs = ap (BCons a.binders a.body) (arms_join arms b bs)
+arms_join (a ∷ arms) b bs = ap (lifted.Branch a.binders a.body) (arms_join arms b bs)
 
 -- one more branch is lifted
 pub arms_go : (notes : List (List ℕ)) (v0 : Scope × List ℕ) (fr0 : List LiftSlot) (fs0 : List Function) (bs0 : AnfBranches) (v : Scope × List ℕ) (fr : List LiftSlot) (fs : List Function) (arms : List LiftedBranch) (n : ℕ) (t : AnfBlock) (rest : AnfBranches) →
@@ -181,7 +182,7 @@ pub arms_go : (notes : List (List ℕ)) (v0 : Scope × List ℕ) (fr0 : List Lif
 arms_go notes v0 fr0 fs0 bs0 v fr fs arms n t rest h fs1 b v2 fr2 en et ef cap ev er =
     let inner : List Fn = functions_block (plains n v.0) (unnumbered n v.1) (length fs) t in
     let g1 : length fs1 ≡ length fs + block_functions t = functions_more fs fs1 inner (block_functions t) ef (block_length (plains n v.0) (unnumbered n v.1) (length fs) t) in
-    let arm : BCons b.binders b.body (lift_branches v2.0 v2.1 fr2 (length fs1) rest) ≡ lift_branches v.0 v.1 fr (length fs) (Branch n t rest) = cc in
+    let arm : lifted.Branch b.binders b.body (lift_branches v2.0 v2.1 fr2 (length fs1) rest) ≡ lift_branches v.0 v.1 fr (length fs) (Branch n t rest) = cc in
     let efun : functions_branches v2.0 v2.1 (length fs1) rest ≡ functions_branches v.0 v.1 (length fs + block_functions t) rest = cc in
     let st : Stand notes (length fs + block_functions t) (notes_branches (size v.0) rest) =
     stand_after notes (length fs) (length fs + block_functions t) (notes_block (n + size v.0) t) (notes_branches (size v.0) rest) (let z = block_noted (n + size v.0) t in omega arith) h.stand in
@@ -195,9 +196,9 @@ arms_go notes v0 fr0 fs0 bs0 v fr fs arms n t rest h fs1 b v2 fr2 en et ef cap e
       frame = er ∙ h.frame;
     }
 
-pub arms_code : (arms : List LiftedBranch) → arms_before arms BNil ≡ lifted_branches arms
+pub arms_code : (arms : List LiftedBranch) → arms_before arms NoBranch ≡ lifted_branches arms
 arms_code [] = refl
-arms_code (a ∷ arms) = ap (BCons a.binders a.body) (arms_code arms)
+arms_code (a ∷ arms) = ap (lifted.Branch a.binders a.body) (arms_code arms)
 
 -- what was held is left once the branch is done
 holding_shrunk : (n : ℕ) (s : Scope) (fr : List LiftSlot) → drop (length (holding n s fr) - length fr) (holding n s fr) ≡ fr
@@ -238,7 +239,7 @@ module _ (notes : List (List ℕ)) (ws : List ℕ) (at : ℕ) (v0 : Scope × Lis
       (fs1 fs2 : List Function) (v2 : Scope × List ℕ) → functions_of fs1 ≡ functions_of fs ++ inner → functions_of fs2 ≡ slice_set (functions_of fs1) (at + i) fn → v2 ≡ v →
       DefsGo notes ws at v0 fs0 ds0 (i + 1) v2 fs2 rest
   defs_go i v fs ds rest fn inner ns h ec ed ef en el cap back fs1 fs2 v2 e1 e2 ev =
-      let blank : Fn = record { captured = 0; body = RetAtom ABox } in
+      let blank : Fn = record { captured = 0; body = TailAtom ABox } in
       let a1 : functions_of fs1 ≡ (h.before ++ h.done) ++ blank ∷ (blanks (def_count rest) ++ (h.inside ++ inner)) =
       e1 ∙ ap (λ z. z ++ inner) (h.are ∙ ap (λ k. h.before ++ (h.done ++ (blanks k ++ h.inside))) ec) ∙ regrouped h.before h.done h.inside inner blank (blanks (def_count rest)) in
       let p : length (h.before ++ h.done) ≡ at + i = length-append h.before h.done ∙ (let x = h.first in let y = h.count in omega arith) in

@@ -5,7 +5,7 @@ use Rattle.std.proofs.lemmas.List.{take_more, append-nil}
 use Rattle.anf_convert.specs.declared.program.Atom.{Atom}
 use Rattle.anf_convert.specs.declared.program.Atom.TheVariants.{Var as AVar, Box as ABox}
 use Rattle.anf_convert.specs.Captured.{Scope, Words, entry}
-use Rattle.closure_lift.specs.Lifted.{OClos, RetAtom, Bound, OpBound}
+use Rattle.closure_lift.specs.Lifted.{ClosOp, TailAtom, Bound, OpIs}
 use Rattle.closure_lift.specs.Lift.{LiftSlot, held}
 use Rattle.closure_lift.specs.LiftedView.{fn_of, functions_of}
 use Rattle.closure_lift.specs.FreeVariables.{all_words}
@@ -20,9 +20,9 @@ functions_set [] (suc at) f = refl
 functions_set (x ∷ fs) zero f = refl
 functions_set (x ∷ fs) (suc at) f = ap (λ zs. fn_of x ∷ zs) (functions_set fs at f)
 
-pub blanks_more : (n : ℕ) → blanks (n + 1) ≡ blanks n ++ record { captured = 0; body = RetAtom ABox } ∷ []
+pub blanks_more : (n : ℕ) → blanks (n + 1) ≡ blanks n ++ record { captured = 0; body = TailAtom ABox } ∷ []
 blanks_more zero = refl
-blanks_more (suc n) = ap blanks (let e : suc n + 1 ≡ suc (n + 1) = omega arith in e) ∙ ap (λ zs. record { captured = 0; body = RetAtom ABox } ∷ zs) (blanks_more n)
+blanks_more (suc n) = ap blanks (let e : suc n + 1 ≡ suc (n + 1) = omega arith in e) ∙ ap (λ zs. record { captured = 0; body = TailAtom ABox } ∷ zs) (blanks_more n)
 
 pub blanks_length : (n : ℕ) → length (blanks n) ≡ n
 blanks_length zero = refl
@@ -36,9 +36,9 @@ pub words_more : (f : ℕ → List ℕ) (xs : List ℕ) (i : ℕ) → i < length
 words_more f xs i lt = ap (all_words f) (take_more xs i 0 lt) ∙ words_end f (take i xs) (get_or xs i 0)
 
 -- the code that makes a fixpoint's closure
-pub closure_made : (s : Scope) (gs : List ℕ) (fr : List LiftSlot) (i g n : ℕ) (ws : List ℕ) (as' : List Atom) → Words ws ≡ entry s i → g ≡ get_or gs i 0 → n ≡ g → as' ≡ map (held fr) ws → OpBound (OClos n as') ∷ [] ≡ closure_code s gs fr (AVar i)
+pub closure_made : (s : Scope) (gs : List ℕ) (fr : List LiftSlot) (i g n : ℕ) (ws : List ℕ) (as' : List Atom) → Words ws ≡ entry s i → g ≡ get_or gs i 0 → n ≡ g → as' ≡ map (held fr) ws → OpIs (ClosOp n as') ∷ [] ≡ closure_code s gs fr (AVar i)
 closure_made s gs fr i g n ws as' e eg en ea =
-    ap (λ k. OpBound (OClos k as') ∷ []) (en ∙ eg) ∙ ap (λ zs. OpBound (OClos (get_or gs i 0) zs) ∷ []) ea ∙ ap (code_for fr (get_or gs i 0)) e
+    ap (λ k. OpIs (ClosOp k as') ∷ []) (en ∙ eg) ∙ ap (λ zs. OpIs (ClosOp (get_or gs i 0) zs) ∷ []) ea ∙ ap (code_for fr (get_or gs i 0)) e
 
 -- closures for one more atom, from the last on
 pub frame_on : (s : Scope) (fr : List LiftSlot) (xs : List Atom) (p : ℕ) (d : Atom) {fr1 to : List LiftSlot} → p < length xs → fr1 ≡ closure_frame s fr (get_or xs (length xs - 1 - p) d) →

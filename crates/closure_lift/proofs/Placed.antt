@@ -1,10 +1,12 @@
 -- Where the functions of a lifted program are.
-use Rattle.std.proofs.Common.{◌≡◌, ℕ, zero, suc, ◌+◌, List, [], ◌∷◌, ◌++◌, length, Some, None, refl, ap, ◌∙◌, subst, length-append, arith}
+use Rattle.std.proofs.Common.{◌≡◌, ℕ, zero, suc, ◌+◌, List, [], ◌∷◌, ◌++◌, length, Some, refl, ap, ◌∙◌, subst, length-append, arith}
 use Rattle.std.specs.Prelude.{slice_get}
+use Rattle.std.proofs.lemmas.Option.{none-some, same_Some}
 use Rattle.anf_convert.specs.Anf.{AnfOp, ConstOp, AppOp, ConOp, LamOp, FixOp, CaseOp, AnfBlock, TailAtom, Tail, BindAtom, Bind, AnfBranches, NoBranch, Branch, AnfDefs, NoDef, LamDef, BoxDef, AnfProgram, def_count}
 use Rattle.anf_convert.specs.AnfEvaluation.{LamAt, lam_here, lam_after_lam, lam_after_box, BoxAt, box_here, box_after_lam, box_after_box, AnfBranchAt, at_branch, after_branch}
 use Rattle.anf_convert.specs.Captured.{Scope, Outside, Plain, plains, shares, fix_captured}
-use Rattle.closure_lift.specs.Lifted.{Block, RetAtom, Fn, Program, BranchAt, branch_here, branch_after}
+use Rattle.closure_lift.specs.Lifted.{Block, Fn, Program, BranchAt, branch_here, branch_after}
+use Rattle.closure_lift.specs.Lifted as lifted
 use Rattle.anf_convert.specs.declared.program.Atom.TheVariants.{Box as ABox}
 use Rattle.closure_lift.specs.Lift.{LiftSlot, op_functions, block_functions, branches_functions, defs_functions, unnumbered, numbered, holding, lift_block, lift_branches, lambda_function, def_functions, functions_op, functions_block, functions_branches, functions_defs, constants_functions, lift_constants, functions_constants, lift}
 
@@ -97,7 +99,7 @@ def_placed {all = all} f g k e lam_here p q = record { from = g; at = ap (slice_
 def_placed {s} {gs} f g k e (lam_after_lam {d = d} at) p q = def_placed (suc f) (g + block_functions d) k (omega arith) at (rest p) (back _ _ (omega (arith, block_length (Plain s) (0 ∷ gs) g d)) q)
 def_placed f g k e (lam_after_box at) p q = def_placed (suc f) g k (omega arith) at (rest p) q
 
-pub box_placed : (s : Scope) (gs ws : List ℕ) {ds : AnfDefs} {i : ℕ} {all : List Fn} (f g k : ℕ) → k ≡ f + i → BoxAt ds i → Placed (def_functions s gs ws g ds) f all → slice_get all k ≡ Some (record { captured = length ws; body = RetAtom ABox })
+pub box_placed : (s : Scope) (gs ws : List ℕ) {ds : AnfDefs} {i : ℕ} {all : List Fn} (f g k : ℕ) → k ≡ f + i → BoxAt ds i → Placed (def_functions s gs ws g ds) f all → slice_get all k ≡ Some (record { captured = length ws; body = lifted.TailAtom ABox })
 box_placed s gs ws {all = all} f g k e box_here p = ap (slice_get all) (omega arith) ∙ first p
 box_placed s gs ws f g k e (box_after_lam {d = d} at) p = box_placed s gs ws (suc f) (g + block_functions d) k (omega arith) at (rest p)
 box_placed s gs ws f g k e (box_after_box at) p = box_placed s gs ws (suc f) g k (omega arith) at (rest p)
@@ -112,21 +114,15 @@ pub constants_length : (g : ℕ) (ts : List AnfBlock) → length (functions_cons
 constants_length g [] = refl
 constants_length g (t ∷ ts) = length-append (functions_block Outside [] g t) (functions_constants (g + block_functions t) ts) ∙ omega (arith, block_length Outside [] g t, constants_length (g + block_functions t) ts)
 
-some_same : {t u : AnfBlock} → Some t ≡ Some u → t ≡ u
-some_same e = cc
-
 record ConstantFound (cs : List Block) (all : List Fn) (x : ℕ) (t : AnfBlock) : Type 0 where
   from : ℕ
   at : slice_get cs x ≡ Some (lift_block Outside [] [] from t)
   placed : Placed (functions_block Outside [] from t) from all
 
 constant_found : {all : List Fn} (g : ℕ) (ts : List AnfBlock) (x : ℕ) (t : AnfBlock) → slice_get ts x ≡ Some t → Placed (functions_constants g ts) g all → ConstantFound (lift_constants g ts) all x t
-constant_found g [] x t e p = absurd (no_some e)
-  where
-    no_some : {u : AnfBlock} → None ≡ Some u → ⊥
-    no_some e = cc
+constant_found g [] x t e p = absurd (none-some t e)
 constant_found {all} g (u ∷ ts) zero t e p =
-    let same = some_same e in
+    let same : u ≡ t = same_Some _ _ e in
     record { from = g; at = ap (λ z. Some (lift_block Outside [] [] g z)) same; placed = subst (λ z. Placed (functions_block Outside [] g z) g all) same (front _ _ p) }
 constant_found g (u ∷ ts) (suc x) t e p =
     let r = constant_found (g + block_functions u) ts x t e (back _ _ (omega (arith, block_length Outside [] g u)) p) in

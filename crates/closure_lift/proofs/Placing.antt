@@ -1,6 +1,7 @@
 -- Where the words are among what the variables of a block hold.
 use Rattle.std.proofs.Common.{◌≡◌, ℕ, zero, suc, ◌+◌, ◌-◌, ◌<◌, List, drop, [], ◌∷◌, length, Some, None, Bool, true, false, refl, sym, ap, ◌∙◌, arith}
 use Rattle.std.specs.Prelude.{nat_eq, if◌then◌else◌}
+use Rattle.std.proofs.lemmas.Option.{none-some, same_Some}
 use Rattle.closure_lift.specs.Lift.{Holds, Made, position, same_slot}
 use Rattle.std.specs.HashMap.{HashMap, get}
 use Rattle.closure_lift.specs.Frames.{slot_of, slots_of, place_of, uncovered, ArePlaced}
@@ -11,23 +12,17 @@ pub slots_length : (hs : List Held) → length (slots_of hs) ≡ length hs
 slots_length [] = refl
 slots_length (h ∷ hs) = ap suc (slots_length hs)
 
-some_same : {p q : ℕ} → Some p ≡ Some q → p ≡ q
-some_same e = cc
-
-no_some : {p : ℕ} → None ≡ Some p → ⊥
-no_some e = cc
-
 pub record IsAt (x : ℕ) (hs : List Held) (p : ℕ) : Type 0 where
   pub below : p < length hs
   pub at : position (Holds x) (slots_of hs) ≡ length hs - 1 - p
 
 -- a place that is known
 pub place_is : (x : ℕ) (hs : List Held) (p : ℕ) → place_of x hs ≡ Some p → IsAt x hs p
-place_is x [] p e = absurd (no_some e)
+place_is x [] p e = absurd (none-some p e)
 place_is x (held.Word y before ∷ hs) p e = let r = go (nat_eq x y) e (place_is x hs p) in record { below = r.0; at = r.1 }
   where
     go : (b : Bool) → (if b then Some (length hs) else place_of x hs) ≡ Some p → (place_of x hs ≡ Some p → IsAt x hs p) → (p < suc (length hs)) × ((if b then 0 else suc (position (Holds x) (slots_of hs))) ≡ suc (length hs) - 1 - p)
-    go true e rest = let s = some_same e in (omega arith, omega arith)
+    go true e rest = let s : length hs ≡ p = same_Some _ _ e in (omega arith, omega arith)
     go false e rest = let r = rest e in let b = r.below in let a = r.at in (omega arith, omega arith)
 place_is x (held.Closure i ∷ hs) p e = let r = place_is x hs p e in let b = r.below in let a = r.at in record { below = omega arith; at = omega arith }
 
@@ -37,11 +32,8 @@ place_none x [] e = refl
 place_none x (held.Closure i ∷ hs) e = ap suc (place_none x hs e)
 place_none x (held.Word y before ∷ hs) e = go (nat_eq x y) e (place_none x hs)
   where
-    some_none : {p : ℕ} → Some p ≡ None → ⊥
-    some_none e = cc
-
     go : (b : Bool) → (if b then Some (length hs) else place_of x hs) ≡ None → (place_of x hs ≡ None → position (Holds x) (slots_of hs) ≡ length hs) → (if b then 0 else suc (position (Holds x) (slots_of hs))) ≡ suc (length hs)
-    go true e rest = absurd (some_none e)
+    go true e rest = absurd (none-some (length hs) (sym e))
     go false e rest = ap suc (rest e)
 
 -- the closure is looked for from the innermost variable on

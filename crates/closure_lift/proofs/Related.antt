@@ -1,6 +1,7 @@
 -- Values and environments of the two languages.
 use Rattle.std.proofs.Common.{◌≡◌, ℕ, zero, suc, ◌+◌, ◌<◌, ◌≤◌, List, [], ◌∷◌, map, length, Option, Some, None, Bool, true, false, refl, sym, ap, ◌∙◌, subst as transport, ⊎_elim, inl, inr, arith}
 use Rattle.std.proofs.lemmas.Bool.{eq-eqb, ne_eqb, eqb-true}
+use Rattle.std.proofs.lemmas.Option.{none-some, same_Some}
 use Rattle.std.specs.Prelude.{get_or, nat_eq, ◌⊎◌, if◌then◌else◌}
 use Rattle.anf_convert.specs.Anf.{LamOp, FixOp, AnfBlock, AnfDefs}
 use Rattle.anf_convert.specs.Captured.{Scope, Outside, Plain, Shared, depth, Unbound, Word, Words, entry, plains, shares, lam_captured, fix_captured}
@@ -39,9 +40,6 @@ pub vrs_size : {P : Program} {ws : AnfVals} {vs : Vals} → VRs P ws vs → size
 vrs_size vrs_nil = refl
 vrs_size (vrs_cons h hs) = ap suc (vrs_size hs)
 
-none_some : {u : Val} → None ≡ Some u → ⊥
-none_some e = cc
-
 -- other words, with the same values or none
 pub er_moves : {P : Program} {W W' : ℕ → Option Val} {s : Scope} {gs : List ℕ} {e : AnfVals} → ((x : ℕ) → x < depth s → (W' x ≡ None) ⊎ (W' x ≡ W x)) → ER P W s gs e → ER P W' s gs e
 er_moves f er_nil = er_nil
@@ -56,12 +54,6 @@ er_moves {W' = W'} f (er_fix is le er' p n er) = er_fix is le (er_moves {W' = W'
 pub er_same : {P : Program} {W W' : ℕ → Option Val} {s : Scope} {gs : List ℕ} {e : AnfVals} → ((x : ℕ) → x < depth s → W' x ≡ W x) → ER P W s gs e → ER P W' s gs e
 er_same f er = er_moves (λ x lt. inr (f x lt)) er
 
-some_val : {u v : Val} → Some u ≡ Some v → u ≡ v
-some_val e = cc
-
-some_anf : {u v : AnfVal} → Some u ≡ Some v → u ≡ v
-some_anf e = cc
-
 word_same : {x y : ℕ} → Word x ≡ Word y → x ≡ y
 word_same e = cc
 
@@ -75,10 +67,10 @@ er_word i er_nil is at has = absurd (no_word is)
     no_word : {y : ℕ} → Unbound ≡ Word y → ⊥
     no_word e = cc
 er_word {P} {W} {v = v} {u = u} zero (er_in {v = v'} {u = u'} at' g er) is at has =
-    let same : u' ≡ u = some_val (sym at' ∙ ap W (word_same is) ∙ has) in
-    transport (λ z. VR P z u) (some_anf at) (transport (λ z. VR P v' z) same g)
+    let same : u' ≡ u = same_Some _ _ (sym at' ∙ ap W (word_same is) ∙ has) in
+    transport (λ z. VR P z u) (same_Some _ _ at) (transport (λ z. VR P v' z) same g)
 er_word (suc i) (er_in at' g er) is at has = er_word i er is at has
-er_word {W = W} zero (er_out at' er) is at has = absurd (none_some (sym at' ∙ ap W (word_same is) ∙ has))
+er_word {W = W} {u = u} zero (er_out at' er) is at has = absurd (none-some u (sym at' ∙ ap W (word_same is) ∙ has))
 er_word (suc i) (er_out at' er) is at has = er_word i er is at has
 er_word zero (er_fix is' le er' p n er) is at has = absurd (no_words is)
   where
@@ -109,7 +101,7 @@ er_words zero (er_out at' er) is at = absurd (no_words is)
     no_words e = cc
 er_words (suc i) (er_out at' er) is at = deeper (omega arith) (er_words i er is at)
 er_words {P} {W} {s} {v = v} {ws = ws} zero (er_fix {s = s0} {n = n} is' le er' p eq er) is at =
-    transport (λ z. FixAt P W (depth s0) z ws n) (some_anf at) (fix_at (sym (words_same is) ∙ is') le er' p eq)
+    transport (λ z. FixAt P W (depth s0) z ws n) (same_Some _ _ at) (fix_at (sym (words_same is) ∙ is') le er' p eq)
 er_words (suc i) (er_fix is' le er' p n er) is at = er_words i er is at
 
 -- what a slot holds

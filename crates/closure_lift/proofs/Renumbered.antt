@@ -5,7 +5,8 @@ use Rattle.anf_convert.specs.declared.program.Atom.{Atom}
 use Rattle.anf_convert.specs.declared.program.Atom.TheVariants.{Var as AVar, Box as ABox, Empty as AEmpty}
 use Rattle.anf_convert.specs.Renumbering as anf
 use Rattle.anf_convert.specs.Captured.{Scope, Plain, depth, Entry, Unbound, Word, Words, entry, plains, shares, atom_words, op_words, block_words, branches_words, defs_words, captured, lam_captured, fix_captured}
-use Rattle.closure_lift.specs.Lifted.{OClos, OCase, Block, RetAtom, LetAtom, Ret, Let, BCons}
+use Rattle.closure_lift.specs.Lifted.{ClosOp, Block}
+use Rattle.closure_lift.specs.Lifted as lifted
 use Rattle.closure_lift.specs.Lift.{LiftSlot, Holds, held, atom, closure_for, closure, closures, atoms_of, op_functions, block_functions, branches_functions, defs_functions, unnumbered, holding, lift_op, lift_block, lift_branches}
 use Rattle.closure_lift.specs.LiftedProgram.{renumber_op, renumber, renumber_branches}
 
@@ -86,7 +87,7 @@ module _ (f : ℕ → ℕ) where
   entry_goes : (fr : List LiftSlot) (i g : ℕ) (e : Entry) (next next' : List LiftSlot → Block) → ((fr : List LiftSlot) → next' fr ≡ renumber f (next fr)) → closure_for fr i g e next' ≡ renumber f (closure_for fr i g e next)
   entry_goes fr i g Unbound next next' h = h fr
   entry_goes fr i g (Word x) next next' h = h fr
-  entry_goes fr i g (Words ws) next next' h = ap (Let (OClos g (map (held fr) ws))) (h _)
+  entry_goes fr i g (Words ws) next next' h = ap (lifted.Bind (ClosOp g (map (held fr) ws))) (h _)
 
   atom_goes : (s : Scope) (gs : List ℕ) (fr : List LiftSlot) (a : Atom) (next next' : List LiftSlot → Block) → ((fr : List LiftSlot) → next' fr ≡ renumber f (next fr)) → closure s gs fr a next' ≡ renumber f (closure s gs fr a next)
   atom_goes s gs fr (AVar i) next next' h = entry_goes fr i (get_or gs i 0) (entry s i) next next' h
@@ -102,29 +103,29 @@ module _ (f : ℕ → ℕ) where
     lift_op_renumbered s gs fr g (ConstOp x) = refl
     lift_op_renumbered s gs fr g (AppOp h a) = refl
     lift_op_renumbered s gs fr g (ConOp c as') = refl
-    lift_op_renumbered s gs fr g (LamOp b) = ap (λ ws. OClos g (map (held fr) ws)) (lam_same s b)
-    lift_op_renumbered s gs fr g (FixOp ds i) = ap (λ ws. OClos (g + i) (map (held fr) ws)) (fix_same s ds)
-    lift_op_renumbered s gs fr g (CaseOp a bs) = ap (OCase (atom s fr a)) (lift_branches_renumbered s gs fr g bs)
+    lift_op_renumbered s gs fr g (LamOp b) = ap (λ ws. ClosOp g (map (held fr) ws)) (lam_same s b)
+    lift_op_renumbered s gs fr g (FixOp ds i) = ap (λ ws. ClosOp (g + i) (map (held fr) ws)) (fix_same s ds)
+    lift_op_renumbered s gs fr g (CaseOp a bs) = ap (lifted.CaseOp (atom s fr a)) (lift_branches_renumbered s gs fr g bs)
 
     pub lift_block_renumbered : (s : Scope) (gs : List ℕ) (fr : List LiftSlot) (g : ℕ) (t : AnfBlock) → lift_block s gs fr g (anf.renumber f t) ≡ renumber f (lift_block s gs fr g t)
-    lift_block_renumbered s gs fr g (TailAtom a) = goes s gs fr (a ∷ []) (λ fr'. RetAtom (atom s fr' a)) (λ fr'. RetAtom (atom s fr' a)) (λ fr'. refl)
+    lift_block_renumbered s gs fr g (TailAtom a) = goes s gs fr (a ∷ []) (λ fr'. lifted.TailAtom (atom s fr' a)) (λ fr'. lifted.TailAtom (atom s fr' a)) (λ fr'. refl)
     lift_block_renumbered s gs fr g (Tail op) =
-        ap (λ as'. closures s gs fr as' (λ fr'. Ret (lift_op s gs fr' g (anf.renumber_op f op)))) (atoms_same op)
-        ∙ goes s gs fr (atoms_of op) (λ fr'. Ret (lift_op s gs fr' g op)) (λ fr'. Ret (lift_op s gs fr' g (anf.renumber_op f op))) (λ fr'. ap Ret (lift_op_renumbered s gs fr' g op))
+        ap (λ as'. closures s gs fr as' (λ fr'. lifted.Tail (lift_op s gs fr' g (anf.renumber_op f op)))) (atoms_same op)
+        ∙ goes s gs fr (atoms_of op) (λ fr'. lifted.Tail (lift_op s gs fr' g op)) (λ fr'. lifted.Tail (lift_op s gs fr' g (anf.renumber_op f op))) (λ fr'. ap lifted.Tail (lift_op_renumbered s gs fr' g op))
     lift_block_renumbered s gs fr g (BindAtom a t) =
-        goes s gs fr (a ∷ []) (λ fr'. LetAtom (atom s fr' a) (lift_block (Plain s) (0 ∷ gs) (Holds (depth s) ∷ fr') g t)) (λ fr'. LetAtom (atom s fr' a) (lift_block (Plain s) (0 ∷ gs) (Holds (depth s) ∷ fr') g (anf.renumber f t)))
-        (λ fr'. ap (LetAtom (atom s fr' a)) (lift_block_renumbered (Plain s) (0 ∷ gs) (Holds (depth s) ∷ fr') g t))
+        goes s gs fr (a ∷ []) (λ fr'. lifted.BindAtom (atom s fr' a) (lift_block (Plain s) (0 ∷ gs) (Holds (depth s) ∷ fr') g t)) (λ fr'. lifted.BindAtom (atom s fr' a) (lift_block (Plain s) (0 ∷ gs) (Holds (depth s) ∷ fr') g (anf.renumber f t)))
+        (λ fr'. ap (lifted.BindAtom (atom s fr' a)) (lift_block_renumbered (Plain s) (0 ∷ gs) (Holds (depth s) ∷ fr') g t))
     lift_block_renumbered s gs fr g (Bind op t) =
-        ap (λ as'. closures s gs fr as' (λ fr'. Let (lift_op s gs fr' g (anf.renumber_op f op)) (lift_block (Plain s) (0 ∷ gs) (Holds (depth s) ∷ fr') (g + op_functions (anf.renumber_op f op)) (anf.renumber f t)))) (atoms_same op)
-        ∙ goes s gs fr (atoms_of op) (λ fr'. Let (lift_op s gs fr' g op) (lift_block (Plain s) (0 ∷ gs) (Holds (depth s) ∷ fr') (g + op_functions op) t))
-        (λ fr'. Let (lift_op s gs fr' g (anf.renumber_op f op)) (lift_block (Plain s) (0 ∷ gs) (Holds (depth s) ∷ fr') (g + op_functions (anf.renumber_op f op)) (anf.renumber f t)))
-        (λ fr'. ap (λ k. Let (lift_op s gs fr' g (anf.renumber_op f op)) (lift_block (Plain s) (0 ∷ gs) (Holds (depth s) ∷ fr') (g + k) (anf.renumber f t))) (op_functions_same op)
-        ∙ ap (λ o. Let o (lift_block (Plain s) (0 ∷ gs) (Holds (depth s) ∷ fr') (g + op_functions op) (anf.renumber f t))) (lift_op_renumbered s gs fr' g op)
-        ∙ ap (Let (renumber_op f (lift_op s gs fr' g op))) (lift_block_renumbered (Plain s) (0 ∷ gs) (Holds (depth s) ∷ fr') (g + op_functions op) t))
+        ap (λ as'. closures s gs fr as' (λ fr'. lifted.Bind (lift_op s gs fr' g (anf.renumber_op f op)) (lift_block (Plain s) (0 ∷ gs) (Holds (depth s) ∷ fr') (g + op_functions (anf.renumber_op f op)) (anf.renumber f t)))) (atoms_same op)
+        ∙ goes s gs fr (atoms_of op) (λ fr'. lifted.Bind (lift_op s gs fr' g op) (lift_block (Plain s) (0 ∷ gs) (Holds (depth s) ∷ fr') (g + op_functions op) t))
+        (λ fr'. lifted.Bind (lift_op s gs fr' g (anf.renumber_op f op)) (lift_block (Plain s) (0 ∷ gs) (Holds (depth s) ∷ fr') (g + op_functions (anf.renumber_op f op)) (anf.renumber f t)))
+        (λ fr'. ap (λ k. lifted.Bind (lift_op s gs fr' g (anf.renumber_op f op)) (lift_block (Plain s) (0 ∷ gs) (Holds (depth s) ∷ fr') (g + k) (anf.renumber f t))) (op_functions_same op)
+        ∙ ap (λ o. lifted.Bind o (lift_block (Plain s) (0 ∷ gs) (Holds (depth s) ∷ fr') (g + op_functions op) (anf.renumber f t))) (lift_op_renumbered s gs fr' g op)
+        ∙ ap (lifted.Bind (renumber_op f (lift_op s gs fr' g op))) (lift_block_renumbered (Plain s) (0 ∷ gs) (Holds (depth s) ∷ fr') (g + op_functions op) t))
 
     pub lift_branches_renumbered : (s : Scope) (gs : List ℕ) (fr : List LiftSlot) (g : ℕ) (bs : AnfBranches) → lift_branches s gs fr g (anf.renumber_branches f bs) ≡ renumber_branches f (lift_branches s gs fr g bs)
     lift_branches_renumbered s gs fr g NoBranch = refl
     lift_branches_renumbered s gs fr g (Branch n t rest) =
-        ap (λ k. BCons n (lift_block (plains n s) (unnumbered n gs) (holding n s fr) g (anf.renumber f t)) (lift_branches s gs fr (g + k) (anf.renumber_branches f rest))) (block_functions_same t)
-        ∙ ap (λ b. BCons n b (lift_branches s gs fr (g + block_functions t) (anf.renumber_branches f rest))) (lift_block_renumbered (plains n s) (unnumbered n gs) (holding n s fr) g t)
-        ∙ ap (BCons n (renumber f (lift_block (plains n s) (unnumbered n gs) (holding n s fr) g t))) (lift_branches_renumbered s gs fr (g + block_functions t) rest)
+        ap (λ k. lifted.Branch n (lift_block (plains n s) (unnumbered n gs) (holding n s fr) g (anf.renumber f t)) (lift_branches s gs fr (g + k) (anf.renumber_branches f rest))) (block_functions_same t)
+        ∙ ap (λ b. lifted.Branch n b (lift_branches s gs fr (g + block_functions t) (anf.renumber_branches f rest))) (lift_block_renumbered (plains n s) (unnumbered n gs) (holding n s fr) g t)
+        ∙ ap (lifted.Branch n (renumber f (lift_block (plains n s) (unnumbered n gs) (holding n s fr) g t))) (lift_branches_renumbered s gs fr (g + block_functions t) rest)

@@ -4,7 +4,8 @@ use Rattle.anf_convert.specs.Anf.{AnfOp, ConstOp, AppOp, ConOp, LamOp, FixOp, Ca
 use Rattle.anf_convert.specs.Renumbering as anf
 use Rattle.anf_convert.specs.Captured.{Scope, Plain, depth, plains, shares, lam_captured, fix_captured}
 use Rattle.anf_convert.specs.declared.program.Atom.TheVariants.{Box as ABox}
-use Rattle.closure_lift.specs.Lifted.{Block, RetAtom, Fn}
+use Rattle.closure_lift.specs.Lifted.{Block, Fn}
+use Rattle.closure_lift.specs.Lifted as lifted
 use Rattle.closure_lift.specs.Lift.{Holds, op_functions, block_functions, unnumbered, numbered, lambda_function, def_functions, functions_op, functions_block, functions_branches, functions_defs}
 use Rattle.closure_lift.specs.LiftedProgram.{renumber, renumber_functions}
 use Rattle.closure_lift.specs.CapturedLimit.{OpCaptures, BlockCaptures, BranchesCapture, DefsCapture}
@@ -27,7 +28,7 @@ module _ (f : ℕ → ℕ) where
       ap (λ k. lambda_function s gs ws g (anf.renumber f b) ∷ def_functions s gs ws (g + k) (anf.renumber_defs f rest)) (block_functions_same f b)
       ∙ ap (λ x. x ∷ def_functions s gs ws (g + block_functions b) (anf.renumber_defs f rest)) (lambda_renumbered s gs ws g b)
       ∙ ap (λ xs. fn_renumbered (lambda_function s gs ws g b) ∷ xs) (def_functions_renumbered s gs ws (g + block_functions b) rest)
-  def_functions_renumbered s gs ws g (BoxDef rest) = ap (λ (xs : List Fn). let y : Fn = record { captured = length ws; body = RetAtom ABox } in y ∷ xs) (def_functions_renumbered s gs ws g rest)
+  def_functions_renumbered s gs ws g (BoxDef rest) = ap (λ (xs : List Fn). let y : Fn = record { captured = length ws; body = lifted.TailAtom ABox } in y ∷ xs) (def_functions_renumbered s gs ws g rest)
 
   -- the functions of a fixpoint with n definitions and these captured words
   abbrev fix_functions : Scope → List ℕ → ℕ → ℕ → List ℕ → AnfDefs → List Fn

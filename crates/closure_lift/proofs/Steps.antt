@@ -4,7 +4,8 @@ use Rattle.anf_convert.specs.Anf.{AnfOp, ConstOp, AppOp, ConOp, LamOp, FixOp, Ca
 use Rattle.anf_convert.specs.declared.program.Atom.{Atom}
 use Rattle.anf_convert.specs.declared.program.Atom.TheVariants.{Var as AVar, Box as ABox, Empty as AEmpty}
 use Rattle.anf_convert.specs.Captured.{Scope, Plain, depth, Entry, Unbound, Word, Words, entry, plains, shares}
-use Rattle.closure_lift.specs.Lifted.{Block, RetAtom, LetAtom, Ret, Let, Bound, AtomBound, OpBound, lets_of, ret_of}
+use Rattle.closure_lift.specs.Lifted.{Block, Bound}
+use Rattle.closure_lift.specs.Lifted as lifted
 use Rattle.closure_lift.specs.Lift.{LiftSlot, Holds, atom, closure_for, closure, closures, atoms_of, op_functions, block_functions, branches_functions, defs_functions, unnumbered, numbered, lift_op, lift_block, functions_block}
 use Rattle.closure_lift.specs.Lifting.{frame_for, code_for, closure_frame, closure_code, closures_frame, closures_code, atoms_in, lifted_bound, bound_functions, functions_bound, BoundCaptures, Stand, most_words}
 use Rattle.closure_lift.specs.FreeVariables.{free_op, notes_op, notes_block, notes_branches, notes_defs, at_first}
@@ -15,43 +16,43 @@ use Rattle.closure_lift.proofs.Noting.{nothing_length}
 use Rattle.closure_lift.proofs.Placed.{op_length}
 use Rattle.closure_lift.proofs.Placing.{drop_twice}
 
-pub lets_join : (xs ys : List Bound) (t : Block) → lets_of (xs ++ ys) t ≡ lets_of xs (lets_of ys t)
+pub lets_join : (xs ys : List Bound) (t : Block) → lifted.block_of (xs ++ ys) t ≡ lifted.block_of xs (lifted.block_of ys t)
 lets_join [] ys t = refl
-lets_join (AtomBound a ∷ xs) ys t = ap (LetAtom a) (lets_join xs ys t)
-lets_join (OpBound op ∷ xs) ys t = ap (Let op) (lets_join xs ys t)
+lets_join (lifted.AtomIs a ∷ xs) ys t = ap (lifted.BindAtom a) (lets_join xs ys t)
+lets_join (lifted.OpIs op ∷ xs) ys t = ap (lifted.Bind op) (lets_join xs ys t)
 
-entry_closes : (fr : List LiftSlot) (i g : ℕ) (e : Entry) (next : List LiftSlot → Block) → closure_for fr i g e next ≡ lets_of (code_for fr g e) (next (frame_for fr i e))
+entry_closes : (fr : List LiftSlot) (i g : ℕ) (e : Entry) (next : List LiftSlot → Block) → closure_for fr i g e next ≡ lifted.block_of (code_for fr g e) (next (frame_for fr i e))
 entry_closes fr i g Unbound next = refl
 entry_closes fr i g (Word x) next = refl
 entry_closes fr i g (Words ws) next = refl
 
-atom_closes : (s : Scope) (gs : List ℕ) (fr : List LiftSlot) (a : Atom) (next : List LiftSlot → Block) → closure s gs fr a next ≡ lets_of (closure_code s gs fr a) (next (closure_frame s fr a))
+atom_closes : (s : Scope) (gs : List ℕ) (fr : List LiftSlot) (a : Atom) (next : List LiftSlot → Block) → closure s gs fr a next ≡ lifted.block_of (closure_code s gs fr a) (next (closure_frame s fr a))
 atom_closes s gs fr (AVar i) next = entry_closes fr i (get_or gs i 0) (entry s i) next
 atom_closes s gs fr ABox next = refl
 atom_closes s gs fr (AEmpty c) next = refl
 
-pub closes : (s : Scope) (gs : List ℕ) (fr : List LiftSlot) (as' : List Atom) (next : List LiftSlot → Block) → closures s gs fr as' next ≡ lets_of (closures_code s gs fr as') (next (closures_frame s fr as'))
+pub closes : (s : Scope) (gs : List ℕ) (fr : List LiftSlot) (as' : List Atom) (next : List LiftSlot → Block) → closures s gs fr as' next ≡ lifted.block_of (closures_code s gs fr as') (next (closures_frame s fr as'))
 closes s gs fr [] next = refl
 closes s gs fr (a ∷ as') next =
-    atom_closes s gs fr a (λ fr'. closures s gs fr' as' next) ∙ ap (lets_of (closure_code s gs fr a)) (closes s gs (closure_frame s fr a) as' next)
+    atom_closes s gs fr a (λ fr'. closures s gs fr' as' next) ∙ ap (lifted.block_of (closure_code s gs fr a)) (closes s gs (closure_frame s fr a) as' next)
     ∙ sym (lets_join (closure_code s gs fr a) (closures_code s gs (closure_frame s fr a) as') (next (closures_frame s (closure_frame s fr a) as')))
 
 -- one more binding of a block
 pub block_step : (s : Scope) (gs : List ℕ) (fr : List LiftSlot) (g : ℕ) (p : AnfBinding) (ps : List AnfBinding) (t : AnfBlock) →
     lift_block s gs fr g (block_of (p ∷ ps) t) ≡
-    lets_of (closures_code s gs fr (atoms_in p) ++ lifted_bound s gs (closures_frame s fr (atoms_in p)) g p ∷ []) (lift_block (Plain s) (0 ∷ gs) (Holds (depth s) ∷ closures_frame s fr (atoms_in p)) (g + bound_functions p) (block_of ps t))
+    lifted.block_of (closures_code s gs fr (atoms_in p) ++ lifted_bound s gs (closures_frame s fr (atoms_in p)) g p ∷ []) (lift_block (Plain s) (0 ∷ gs) (Holds (depth s) ∷ closures_frame s fr (atoms_in p)) (g + bound_functions p) (block_of ps t))
 block_step s gs fr g (AtomIs a) ps t =
-    closes s gs fr (a ∷ []) (λ fr'. LetAtom (atom s fr' a) (lift_block (Plain s) (0 ∷ gs) (Holds (depth s) ∷ fr') g (block_of ps t)))
-    ∙ ap (λ n. lets_of (closures_code s gs fr (a ∷ [])) (LetAtom (atom s (closures_frame s fr (a ∷ [])) a) (lift_block (Plain s) (0 ∷ gs) (Holds (depth s) ∷ closures_frame s fr (a ∷ [])) n (block_of ps t)))) (let e : g ≡ g + 0 = omega arith in e)
-    ∙ sym (lets_join (closures_code s gs fr (a ∷ [])) (AtomBound (atom s (closures_frame s fr (a ∷ [])) a) ∷ []) (lift_block (Plain s) (0 ∷ gs) (Holds (depth s) ∷ closures_frame s fr (a ∷ [])) (g + 0) (block_of ps t)))
+    closes s gs fr (a ∷ []) (λ fr'. lifted.BindAtom (atom s fr' a) (lift_block (Plain s) (0 ∷ gs) (Holds (depth s) ∷ fr') g (block_of ps t)))
+    ∙ ap (λ n. lifted.block_of (closures_code s gs fr (a ∷ [])) (lifted.BindAtom (atom s (closures_frame s fr (a ∷ [])) a) (lift_block (Plain s) (0 ∷ gs) (Holds (depth s) ∷ closures_frame s fr (a ∷ [])) n (block_of ps t)))) (let e : g ≡ g + 0 = omega arith in e)
+    ∙ sym (lets_join (closures_code s gs fr (a ∷ [])) (lifted.AtomIs (atom s (closures_frame s fr (a ∷ [])) a) ∷ []) (lift_block (Plain s) (0 ∷ gs) (Holds (depth s) ∷ closures_frame s fr (a ∷ [])) (g + 0) (block_of ps t)))
 block_step s gs fr g (OpIs op) ps t =
-    closes s gs fr (atoms_of op) (λ fr'. Let (lift_op s gs fr' g op) (lift_block (Plain s) (0 ∷ gs) (Holds (depth s) ∷ fr') (g + op_functions op) (block_of ps t)))
-    ∙ sym (lets_join (closures_code s gs fr (atoms_of op)) (OpBound (lift_op s gs (closures_frame s fr (atoms_of op)) g op) ∷ []) (lift_block (Plain s) (0 ∷ gs) (Holds (depth s) ∷ closures_frame s fr (atoms_of op)) (g + op_functions op) (block_of ps t)))
+    closes s gs fr (atoms_of op) (λ fr'. lifted.Bind (lift_op s gs fr' g op) (lift_block (Plain s) (0 ∷ gs) (Holds (depth s) ∷ fr') (g + op_functions op) (block_of ps t)))
+    ∙ sym (lets_join (closures_code s gs fr (atoms_of op)) (lifted.OpIs (lift_op s gs (closures_frame s fr (atoms_of op)) g op) ∷ []) (lift_block (Plain s) (0 ∷ gs) (Holds (depth s) ∷ closures_frame s fr (atoms_of op)) (g + op_functions op) (block_of ps t)))
 
 -- the end of a block
-pub block_end : (s : Scope) (gs : List ℕ) (fr : List LiftSlot) (g : ℕ) (p : AnfBinding) → lift_block s gs fr g (tail_of p) ≡ lets_of (closures_code s gs fr (atoms_in p)) (ret_of (lifted_bound s gs (closures_frame s fr (atoms_in p)) g p))
-block_end s gs fr g (AtomIs a) = closes s gs fr (a ∷ []) (λ fr'. RetAtom (atom s fr' a))
-block_end s gs fr g (OpIs op) = closes s gs fr (atoms_of op) (λ fr'. Ret (lift_op s gs fr' g op))
+pub block_end : (s : Scope) (gs : List ℕ) (fr : List LiftSlot) (g : ℕ) (p : AnfBinding) → lift_block s gs fr g (tail_of p) ≡ lifted.block_of (closures_code s gs fr (atoms_in p)) (lifted.tail_of (lifted_bound s gs (closures_frame s fr (atoms_in p)) g p))
+block_end s gs fr g (AtomIs a) = closes s gs fr (a ∷ []) (λ fr'. lifted.TailAtom (atom s fr' a))
+block_end s gs fr g (OpIs op) = closes s gs fr (atoms_of op) (λ fr'. lifted.Tail (lift_op s gs fr' g op))
 
 pub functions_step : (s : Scope) (gs : List ℕ) (g : ℕ) (p : AnfBinding) (ps : List AnfBinding) (t : AnfBlock) → functions_block s gs g (block_of (p ∷ ps) t) ≡ functions_bound s gs g p ++ functions_block (Plain s) (0 ∷ gs) (g + bound_functions p) (block_of ps t)
 functions_step s gs g (AtomIs a) ps t = ap (λ n. functions_block (Plain s) (0 ∷ gs) n (block_of ps t)) (let e : g ≡ g + 0 = omega arith in e)

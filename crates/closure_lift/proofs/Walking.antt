@@ -5,7 +5,7 @@ use Rattle.std.specs.Prelude.{slice_set, Result, Ok, Err, IfOk, IfErr, OnOk}
 use Rattle.anf_convert.specs.Anf.{LamOp, FixOp, AnfBlock, AnfDefs, NoDef, LamDef, BoxDef, def_count}
 use Rattle.anf_convert.specs.declared.program.Atom.TheVariants.{Box as ABox}
 use Rattle.anf_convert.specs.Captured.{Scope, Plain, plains, shares, lam_captured, fix_captured}
-use Rattle.closure_lift.specs.Lifted.{Block, RetAtom, Fn}
+use Rattle.closure_lift.specs.Lifted.{Block, TailAtom, Fn}
 use Rattle.closure_lift.specs.Lift.{numbered, unnumbered, functions_op, functions_block}
 use Rattle.closure_lift.specs.LiftedView.{functions_of}
 use Rattle.closure_lift.specs.FreeVariables.{size, free_op, notes_op, notes_block, notes_defs, nothing, at_first}
@@ -27,11 +27,6 @@ refuses_part Memory f r = tt
 
 pub refused_by : {X P Q : Type 0} (r : Result X LiftFault) (e : LiftFault) → r ≡ Err e → (Q → P) → LiftRefuses P e → IfErr r (LiftRefuses Q)
 refused_by {Q = Q} r e is f h = transport (λ r. IfErr r (LiftRefuses Q)) (sym is) (refuses_part e f h)
-
--- what holds whatever is answered
-pub always : {X E Q : Type 0} (r : Result X E) → Q → OnOk r Q
-always (Ok x) h = h
-always (Err e) h = tt
 
 -- words that are known and few
 pub few_words : {E : Type 0} (r : Result (List ℕ) E) (ws : List ℕ) → IfOk r (λ vs. vs ≡ ws) → IfOk r (λ vs. length vs < most_words) → OnOk r (length ws < most_words)
@@ -63,7 +58,7 @@ module _ (notes : List (List ℕ)) (s : Scope) (gs : List ℕ) (b : AnfBlock) (f
         functions_of fs3 ≡ slice_set (functions_of fs2) (length fs0) (function_with ws t) → t ≡ function_body (s, gs) ws (length fs1) b → ws ≡ lam_captured s b →
         functions_of fs3 ≡ functions_of fs0 ++ functions_op s gs (length fs0) (LamOp b)
     lam_functions fs2 fs3 ws t e2 e3 et ew =
-        let blank : Fn = record { captured = 0; body = RetAtom ABox } in
+        let blank : Fn = record { captured = 0; body = TailAtom ABox } in
         let f0 = functions_of fs0 in
         let inner = functions_block (Plain s) (0 ∷ gs) (length fs1) b in
         let a2 : functions_of fs2 ≡ f0 ++ blank ∷ inner = e2 ∙ ap (λ z. z ++ inner) e1 ∙ append_assoc f0 (blanks 1) inner in

@@ -6,7 +6,7 @@ use Rattle.anf_convert.specs.Renumbering as anf
 use Rattle.anf_convert.specs.Captured.{Outside}
 use Rattle.anf_convert.specs.declared.program.AnfConstant.{AnfConstant}
 use Rattle.anf_convert.specs.declared.program.AnfProgram.{AnfProgram}
-use Rattle.closure_lift.specs.Lifted.{Op, OConst, OApp, OCon, OClos, OCase, Block, RetAtom, LetAtom, Ret, Let, BranchBlocks, BNil, BCons, Fn}
+use Rattle.closure_lift.specs.Lifted.{Op, ConstOp, AppOp, ConOp, ClosOp, CaseOp, Block, TailAtom, BindAtom, Tail, Bind, BranchBlocks, NoBranch, Branch, Fn}
 use Rattle.closure_lift.specs.Lift.{block_functions, constants_functions, lift_block, lift_constants, functions_block, functions_constants, lift}
 use Rattle.closure_lift.specs.LiftedProgram.{renumber_op, renumber, renumber_branches, renumber_functions, place_in, lifted_of}
 use Rattle.closure_lift.specs.NamedLift.{bodies, named_constants, named_lift}
@@ -18,21 +18,21 @@ use Rattle.closure_lift.proofs.RenumberedFunctions.{append_renumbered, functions
 module _ (f h : ℕ → ℕ) (e : (x : ℕ) → f x ≡ h x) where
   mutual
     same_op : (o : Op) → renumber_op f o ≡ renumber_op h o
-    same_op (OConst x) = ap OConst (e x)
-    same_op (OApp g a) = refl
-    same_op (OCon c as') = refl
-    same_op (OClos g as') = refl
-    same_op (OCase a bs) = ap (OCase a) (same_branches bs)
+    same_op (ConstOp x) = ap ConstOp (e x)
+    same_op (AppOp g a) = refl
+    same_op (ConOp c as') = refl
+    same_op (ClosOp g as') = refl
+    same_op (CaseOp a bs) = ap (CaseOp a) (same_branches bs)
 
     same_block : (t : Block) → renumber f t ≡ renumber h t
-    same_block (RetAtom a) = refl
-    same_block (LetAtom a t) = ap (LetAtom a) (same_block t)
-    same_block (Ret o) = ap Ret (same_op o)
-    same_block (Let o t) = ap (λ o. Let o (renumber f t)) (same_op o) ∙ ap (Let (renumber_op h o)) (same_block t)
+    same_block (TailAtom a) = refl
+    same_block (BindAtom a t) = ap (BindAtom a) (same_block t)
+    same_block (Tail o) = ap Tail (same_op o)
+    same_block (Bind o t) = ap (λ o. Bind o (renumber f t)) (same_op o) ∙ ap (Bind (renumber_op h o)) (same_block t)
 
     same_branches : (bs : BranchBlocks) → renumber_branches f bs ≡ renumber_branches h bs
-    same_branches BNil = refl
-    same_branches (BCons n t rest) = ap (λ t. BCons n t (renumber_branches f rest)) (same_block t) ∙ ap (BCons n (renumber h t)) (same_branches rest)
+    same_branches NoBranch = refl
+    same_branches (Branch n t rest) = ap (λ t. Branch n t (renumber_branches f rest)) (same_block t) ∙ ap (Branch n (renumber h t)) (same_branches rest)
 
   same_functions : (fs : List Fn) → renumber_functions f fs ≡ renumber_functions h fs
   same_functions [] = refl

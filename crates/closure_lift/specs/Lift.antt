@@ -4,7 +4,8 @@ use Rattle.anf_convert.specs.Anf.{AnfOp, ConstOp, AppOp, ConOp, LamOp, FixOp, Ca
 use Rattle.anf_convert.specs.declared.program.Atom.{Atom}
 use Rattle.anf_convert.specs.declared.program.Atom.TheVariants.{Var as AVar, Box as ABox, Empty as AEmpty}
 use Rattle.anf_convert.specs.Captured.{Scope, Outside, Plain, depth, Entry, Unbound, Word, Words, entry, plains, shares, lam_captured, fix_captured}
-use Rattle.closure_lift.specs.Lifted.{Op, OConst, OApp, OCon, OClos, OCase, Block, RetAtom, LetAtom, Ret, Let, BranchBlocks, BNil, BCons, Fn, Program}
+use Rattle.closure_lift.specs.Lifted.{Op, ClosOp, Block, BranchBlocks, Fn, Program}
+use Rattle.closure_lift.specs.Lifted as lifted
 
 -- what a variable of a lifted block holds: a word, or the closure that was made for a fixpoint's variable i
 pub data LiftSlot : Type 0 where
@@ -39,7 +40,7 @@ atom s fr (AEmpty c) = AEmpty c
 abbrev pub closure_for : List LiftSlot → ℕ → ℕ → Entry → (List LiftSlot → Block) → Block
 closure_for fr i g Unbound next = next fr
 closure_for fr i g (Word x) next = next fr
-closure_for fr i g (Words ws) next = Let (OClos g (map (held fr) ws)) (next (Made i ∷ fr))
+closure_for fr i g (Words ws) next = lifted.Bind (ClosOp g (map (held fr) ws)) (next (Made i ∷ fr))
 
 abbrev pub closure : Scope → List ℕ → List LiftSlot → Atom → (List LiftSlot → Block) → Block
 closure s gs fr (AVar i) next = closure_for fr i (get_or gs i 0) (entry s i) next
@@ -104,22 +105,22 @@ holding (suc n) s fr = Holds (depth (plains n s)) ∷ holding n s fr
 -- The code of an operation, and of a block. `fr` tells what the variables of the lifted block hold; the functions inside are numbered from g on
 abbrev mutual
   pub lift_op : Scope → List ℕ → List LiftSlot → ℕ → AnfOp → Op
-  lift_op s gs fr g (ConstOp x) = OConst x
-  lift_op s gs fr g (AppOp f a) = OApp (atom s fr f) (atom s fr a)
-  lift_op s gs fr g (ConOp c as') = OCon c (map (atom s fr) as')
-  lift_op s gs fr g (LamOp b) = OClos g (map (held fr) (lam_captured s b))
-  lift_op s gs fr g (FixOp ds i) = OClos (g + i) (map (held fr) (fix_captured s ds))
-  lift_op s gs fr g (CaseOp a bs) = OCase (atom s fr a) (lift_branches s gs fr g bs)
+  lift_op s gs fr g (ConstOp x) = lifted.ConstOp x
+  lift_op s gs fr g (AppOp f a) = lifted.AppOp (atom s fr f) (atom s fr a)
+  lift_op s gs fr g (ConOp c as') = lifted.ConOp c (map (atom s fr) as')
+  lift_op s gs fr g (LamOp b) = ClosOp g (map (held fr) (lam_captured s b))
+  lift_op s gs fr g (FixOp ds i) = ClosOp (g + i) (map (held fr) (fix_captured s ds))
+  lift_op s gs fr g (CaseOp a bs) = lifted.CaseOp (atom s fr a) (lift_branches s gs fr g bs)
 
   pub lift_block : Scope → List ℕ → List LiftSlot → ℕ → AnfBlock → Block
-  lift_block s gs fr g (TailAtom a) = closures s gs fr (a ∷ []) (λ fr'. RetAtom (atom s fr' a))
-  lift_block s gs fr g (Tail op) = closures s gs fr (atoms_of op) (λ fr'. Ret (lift_op s gs fr' g op))
-  lift_block s gs fr g (BindAtom a t) = closures s gs fr (a ∷ []) (λ fr'. LetAtom (atom s fr' a) (lift_block (Plain s) (0 ∷ gs) (Holds (depth s) ∷ fr') g t))
-  lift_block s gs fr g (Bind op t) = closures s gs fr (atoms_of op) (λ fr'. Let (lift_op s gs fr' g op) (lift_block (Plain s) (0 ∷ gs) (Holds (depth s) ∷ fr') (g + op_functions op) t))
+  lift_block s gs fr g (TailAtom a) = closures s gs fr (a ∷ []) (λ fr'. lifted.TailAtom (atom s fr' a))
+  lift_block s gs fr g (Tail op) = closures s gs fr (atoms_of op) (λ fr'. lifted.Tail (lift_op s gs fr' g op))
+  lift_block s gs fr g (BindAtom a t) = closures s gs fr (a ∷ []) (λ fr'. lifted.BindAtom (atom s fr' a) (lift_block (Plain s) (0 ∷ gs) (Holds (depth s) ∷ fr') g t))
+  lift_block s gs fr g (Bind op t) = closures s gs fr (atoms_of op) (λ fr'. lifted.Bind (lift_op s gs fr' g op) (lift_block (Plain s) (0 ∷ gs) (Holds (depth s) ∷ fr') (g + op_functions op) t))
 
   pub lift_branches : Scope → List ℕ → List LiftSlot → ℕ → AnfBranches → BranchBlocks
-  lift_branches s gs fr g NoBranch = BNil
-  lift_branches s gs fr g (Branch n t rest) = BCons n (lift_block (plains n s) (unnumbered n gs) (holding n s fr) g t) (lift_branches s gs fr (g + block_functions t) rest)
+  lift_branches s gs fr g NoBranch = lifted.NoBranch
+  lift_branches s gs fr g (Branch n t rest) = lifted.Branch n (lift_block (plains n s) (unnumbered n gs) (holding n s fr) g t) (lift_branches s gs fr (g + block_functions t) rest)
 
 -- the function of a lambda's body with these captured words
 abbrev pub lambda_function : Scope → List ℕ → List ℕ → ℕ → AnfBlock → Fn
@@ -129,7 +130,7 @@ lambda_function s gs ws g b = record { captured = length ws; body = lift_block (
 abbrev pub def_functions : Scope → List ℕ → List ℕ → ℕ → AnfDefs → List Fn
 def_functions s gs ws g NoDef = []
 def_functions s gs ws g (LamDef b rest) = lambda_function s gs ws g b ∷ def_functions s gs ws (g + block_functions b) rest
-def_functions s gs ws g (BoxDef rest) = record { captured = length ws; body = RetAtom ABox } ∷ def_functions s gs ws g rest
+def_functions s gs ws g (BoxDef rest) = record { captured = length ws; body = lifted.TailAtom ABox } ∷ def_functions s gs ws g rest
 
 -- the functions, numbered from g on
 abbrev mutual

@@ -1,7 +1,7 @@
 -- Each part of a lifted program is lighter than the whole.
 use Rattle.std.specs.Prelude.{suc, ◌+◌, ◌≤◌, ◌≡◌, List, [], ◌∷◌}
 use Rattle.std.proofs.Common.{arith}
-use Rattle.closure_lift.specs.Lifted.{Block, Bound, AtomBound, OpBound, ret_of, lets_of}
+use Rattle.closure_lift.specs.Lifted.{Block, Bound, AtomIs, OpIs, tail_of, block_of}
 use Rattle.closure_lift.specs.LiftedView.{seen, bounds_of, whole, branches_of}
 use Rattle.closure_lift.specs.LiftedWeight.{block_weight, branches_weight, bound_weight, bounds_weight}
 use Rattle.closure_lift.specs.declared.program.LiftedOp.{LiftedOp}
@@ -22,19 +22,19 @@ pub bounds_fall : (os : List LiftedOp) → most (λ x. deep-LiftedOp x) os ≤ b
 bounds_fall [] = omega arith
 bounds_fall (o ∷ os) = omega (arith, operation_falls o, bounds_fall os)
 
-tail_weight : (p : Bound) → block_weight (ret_of p) ≡ suc (suc (bound_weight p))
-tail_weight (AtomBound a) = omega arith
-tail_weight (OpBound o) = omega arith
+tail_weight : (p : Bound) → block_weight (tail_of p) ≡ suc (suc (bound_weight p))
+tail_weight (AtomIs a) = omega arith
+tail_weight (OpIs o) = omega arith
 
-pub block_weight_is : (ps : List Bound) (t : Block) → suc (block_weight (lets_of ps t)) ≡ bounds_weight ps + block_weight t
+pub block_weight_is : (ps : List Bound) (t : Block) → suc (block_weight (block_of ps t)) ≡ bounds_weight ps + block_weight t
 block_weight_is [] t = omega arith
-block_weight_is (AtomBound a ∷ ps) t = omega (arith, block_weight_is ps t)
-block_weight_is (OpBound o ∷ ps) t = omega (arith, block_weight_is ps t)
+block_weight_is (AtomIs a ∷ ps) t = omega (arith, block_weight_is ps t)
+block_weight_is (OpIs o ∷ ps) t = omega (arith, block_weight_is ps t)
 
 -- the bindings, and what is in the tail
 pub block_falls : (ps : List Bound) (o : LiftedOp) → (suc (bounds_weight ps) ≤ block_weight (whole ps o)) × (deep-LiftedOp o ≤ block_weight (whole ps o))
 block_falls ps o =
-    let all = block_weight_is ps (ret_of (seen o)) in
+    let all = block_weight_is ps (tail_of (seen o)) in
     let last = tail_weight (seen o) in
     let some = some_weight ps in
     (omega (arith, all, last), omega (arith, all, last, some, operation_falls o))

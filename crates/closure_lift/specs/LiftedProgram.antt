@@ -1,6 +1,6 @@
 -- Lifted programs whose constants get other numbers, and the program that a lifted program in memory is seen as.
 use Rattle.std.specs.Prelude.{ℕ, suc, nat_eq, if◌then◌else◌, List, [], ◌∷◌, map}
-use Rattle.closure_lift.specs.Lifted.{Op, OConst, OApp, OCon, OClos, OCase, Block, RetAtom, LetAtom, Ret, Let, BranchBlocks, BNil, BCons, Fn, Program}
+use Rattle.closure_lift.specs.Lifted.{Op, ConstOp, AppOp, ConOp, ClosOp, CaseOp, Block, TailAtom, BindAtom, Tail, Bind, BranchBlocks, NoBranch, Branch, Fn, Program}
 use Rattle.closure_lift.specs.declared.program.LiftedConstant.{LiftedConstant}
 use Rattle.closure_lift.specs.declared.program.Lifted.{Lifted}
 
@@ -8,21 +8,21 @@ use Rattle.closure_lift.specs.declared.program.Lifted.{Lifted}
 module _ (number : ℕ → ℕ) where
   abbrev mutual
     pub renumber_op : Op → Op
-    renumber_op (OConst x) = OConst (number x)
-    renumber_op (OApp f a) = OApp f a
-    renumber_op (OCon c as') = OCon c as'
-    renumber_op (OClos g as') = OClos g as'
-    renumber_op (OCase a bs) = OCase a (renumber_branches bs)
+    renumber_op (ConstOp x) = ConstOp (number x)
+    renumber_op (AppOp f a) = AppOp f a
+    renumber_op (ConOp c as') = ConOp c as'
+    renumber_op (ClosOp g as') = ClosOp g as'
+    renumber_op (CaseOp a bs) = CaseOp a (renumber_branches bs)
 
     pub renumber : Block → Block
-    renumber (RetAtom a) = RetAtom a
-    renumber (LetAtom a t) = LetAtom a (renumber t)
-    renumber (Ret op) = Ret (renumber_op op)
-    renumber (Let op t) = Let (renumber_op op) (renumber t)
+    renumber (TailAtom a) = TailAtom a
+    renumber (BindAtom a t) = BindAtom a (renumber t)
+    renumber (Tail op) = Tail (renumber_op op)
+    renumber (Bind op t) = Bind (renumber_op op) (renumber t)
 
     pub renumber_branches : BranchBlocks → BranchBlocks
-    renumber_branches BNil = BNil
-    renumber_branches (BCons n t rest) = BCons n (renumber t) (renumber_branches rest)
+    renumber_branches NoBranch = NoBranch
+    renumber_branches (Branch n t rest) = Branch n (renumber t) (renumber_branches rest)
 
   abbrev pub renumber_functions : List Fn → List Fn
   renumber_functions [] = []

@@ -6,7 +6,8 @@ use Rattle.anf_convert.specs.declared.program.Atom.TheVariants.{Var as AVar, Box
 use Rattle.anf_convert.specs.declared.program.AnfDef.{AnfDef}
 use Rattle.anf_convert.specs.declared.program.AnfDef.TheVariants as def
 use Rattle.anf_convert.specs.Captured.{Scope, Plain, plains, depth, Entry, Unbound, Word, Words, entry, captured}
-use Rattle.closure_lift.specs.Lifted.{OClos, Block, RetAtom, Fn, Bound, AtomBound, OpBound}
+use Rattle.closure_lift.specs.Lifted.{ClosOp, Block, TailAtom, Fn, Bound}
+use Rattle.closure_lift.specs.Lifted as lifted
 use Rattle.closure_lift.specs.LiftedView.{functions_of}
 use Rattle.closure_lift.specs.Lift.{LiftSlot, Holds, Made, held, atom, atoms_of, unnumbered, holding, lift_op, lift_block, op_functions, functions_op, functions_block, def_functions, functions_defs}
 use Rattle.closure_lift.specs.FreeVariables.{level_words, all_words}
@@ -29,7 +30,7 @@ frame_for fr i (Words ws) = Made i ∷ fr
 abbrev pub code_for : List LiftSlot → ℕ → Entry → List Bound
 code_for fr g Unbound = []
 code_for fr g (Word x) = []
-code_for fr g (Words ws) = OpBound (OClos g (map (held fr) ws)) ∷ []
+code_for fr g (Words ws) = lifted.OpIs (ClosOp g (map (held fr) ws)) ∷ []
 
 abbrev pub closure_frame : Scope → List LiftSlot → Atom → List LiftSlot
 closure_frame s fr (AVar i) = frame_for fr i (entry s i)
@@ -55,8 +56,8 @@ atoms_in (AtomIs a) = a ∷ []
 atoms_in (OpIs op) = atoms_of op
 
 abbrev pub lifted_bound : Scope → List ℕ → List LiftSlot → ℕ → AnfBinding → Bound
-lifted_bound s gs fr g (AtomIs a) = AtomBound (atom s fr a)
-lifted_bound s gs fr g (OpIs op) = OpBound (lift_op s gs fr g op)
+lifted_bound s gs fr g (AtomIs a) = lifted.AtomIs (atom s fr a)
+lifted_bound s gs fr g (OpIs op) = lifted.OpIs (lift_op s gs fr g op)
 
 abbrev pub bound_functions : AnfBinding → ℕ
 bound_functions (AtomIs a) = 0
@@ -73,7 +74,7 @@ BoundCaptures s (OpIs op) = OpCaptures most_words s op
 -- functions that are replaced later
 abbrev pub blanks : ℕ → List Fn
 blanks zero = []
-blanks (suc n) = record { captured = 0; body = RetAtom ABox } ∷ blanks n
+blanks (suc n) = record { captured = 0; body = TailAtom ABox } ∷ blanks n
 
 -- the lists stand from this place on
 pub record Stand (notes : List (List ℕ)) (g : ℕ) (xs : List (List ℕ)) : Type 0 where
@@ -119,7 +120,7 @@ PlacesFor at n fs = (fs ≡ take at fs ++ blanks n) × (length (take at fs) ≡ 
 -- the body of the function of a fixpoint's definition, the functions inside it, and their captured words
 abbrev pub def_body : (Scope × List ℕ) → List ℕ → ℕ → AnfDef → Block
 def_body v ws g (def.Lambda b) = function_body v ws g b
-def_body v ws g def.Box = RetAtom ABox
+def_body v ws g def.Box = TailAtom ABox
 
 abbrev pub functions_def : (Scope × List ℕ) → ℕ → AnfDef → List Fn
 functions_def v g (def.Lambda b) = functions_block (Plain v.0) (0 ∷ v.1) g b

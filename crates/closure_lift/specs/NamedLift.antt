@@ -5,6 +5,7 @@ use Rattle.anf_convert.specs.Captured.{Outside}
 use Rattle.anf_convert.specs.Renumbering.{anf_of}
 use Rattle.anf_convert.specs.declared.program.AnfConstant.{AnfConstant}
 use Rattle.anf_convert.specs.declared.program.AnfProgram.{AnfProgram}
+use Rattle.closure_lift.specs.LiftedForm.{most_functions}
 use Rattle.closure_lift.specs.Lifted.{Block, Program}
 use Rattle.closure_lift.specs.LiftedView.{functions_of}
 use Rattle.closure_lift.specs.declared.program.Function.{Function}
@@ -44,10 +45,6 @@ put_parts fs cs families t = record { functions = functions_of fs; constants = c
 abbrev pub constants_notes : List AnfBlock → List (List ℕ)
 constants_notes [] = []
 constants_notes (t ∷ ts) = notes_block 0 t ++ constants_notes ts
-
--- constants and functions are more than this only where the program is refused
-abbrev pub most_functions : ℕ
-most_functions = 32768
 
 -- why so many constants and functions are refused
 abbrev pub IsCrowded : ℕ → LiftFault → Type 0

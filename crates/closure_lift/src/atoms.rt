@@ -2,7 +2,8 @@
 ghost use Rattle.std.specs.Prelude.{◌≡◌, ℕ, ◌+◌, [], ◌∷◌, ◌++◌, IfOk, IfErr, OnOk, map};
 ghost use Rattle.anf_convert.specs.Anf.{AppOp, ConOp, AtomIs, OpIs};
 ghost use Rattle.closure_lift.specs.Lift.{held, atom};
-ghost use Rattle.closure_lift.specs.Lifted.{OApp, OCon, OClos, OpBound};
+ghost use Rattle.closure_lift.specs.Lifted.{ClosOp};
+ghost use Rattle.closure_lift.specs.Lifted as lifted;
 ghost use Rattle.closure_lift.specs.LiftedView.{seen, bounds_of};
 ghost use Rattle.closure_lift.specs.Lifting.{WithClosures, closure_frame, closures_frame, closure_code, closures_code};
 ghost use Rattle.closure_lift.specs.declared.fault.LiftFault.TheVariants.{Memory};
@@ -155,7 +156,7 @@ pub(crate) fn lift_application(
     f: &Atom,
     a: &Atom,
 ) -> Result<LiftedOp, LiftFault>
-    ensures is { IfOk result (λ o. seen o ≡ OpBound (OApp (atom variables.now.0 frame.new f.now) (atom variables.now.0 frame.new a.now))) }
+    ensures is { IfOk result (λ o. seen o ≡ lifted.OpIs (lifted.AppOp (atom variables.now.0 frame.new f.now) (atom variables.now.0 frame.new a.now))) }
     ensures frame { OnOk result (frame.new ≡ closures_frame variables.now.0 frame.old (f.now ∷ a.now ∷ [])) }
     ensures code { OnOk result (WithClosures variables.now frame.old (OpIs (AppOp f.now a.now)) (bounds_of code.old.items) (bounds_of code.new.items)) }
     ensures only_memory { IfErr result (λ e. e ≡ Memory) }
@@ -175,7 +176,7 @@ pub(crate) fn lift_constructor(
     c: u32,
     atoms: &Atoms,
 ) -> Result<LiftedOp, LiftFault>
-    ensures is { IfOk result (λ o. seen o ≡ OpBound (OCon c (map (atom variables.now.0 frame.new) atoms.now))) }
+    ensures is { IfOk result (λ o. seen o ≡ lifted.OpIs (lifted.ConOp c (map (atom variables.now.0 frame.new) atoms.now))) }
     ensures frame { OnOk result (frame.new ≡ closures_frame variables.now.0 frame.old atoms.now) }
     ensures code { OnOk result (WithClosures variables.now frame.old (OpIs (ConOp c atoms.now)) (bounds_of code.old.items) (bounds_of code.new.items)) }
     ensures only_memory { IfErr result (λ e. e ≡ Memory) }
@@ -193,7 +194,7 @@ pub(crate) fn closure_of(
     at: usize,
     i: u32,
 ) -> Result<LiftedOp, LiftFault>
-    ensures is { IfOk result (λ o. seen o ≡ OpBound (OClos (at + i) (map (held frame.now) words.now))) }
+    ensures is { IfOk result (λ o. seen o ≡ lifted.OpIs (ClosOp (at + i) (map (held frame.now) words.now))) }
     ensures only_memory { IfErr result (λ e. e ≡ Memory) }
 {
     let Some(function) = at.checked_add(i as usize) else {

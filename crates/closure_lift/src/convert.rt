@@ -6,10 +6,10 @@ ghost use Rattle.closure_lift.specs.CapturedLimit.{BlockCaptures, BlocksCapture,
 ghost use Rattle.closure_lift.specs.FreeVariables.{notes_block};
 ghost use Rattle.closure_lift.specs.Lift as spec;
 ghost use Rattle.closure_lift.specs.LiftKeeps.{KeepsLifted, HasLiftedForm};
-ghost use Rattle.closure_lift.specs.LiftedForm.{Limits};
+ghost use Rattle.closure_lift.specs.LiftedForm.{Limits, most_functions};
 ghost use Rattle.closure_lift.specs.LiftedProgram.{lifted_of};
 ghost use Rattle.closure_lift.specs.Lifting.{Stand, LiftRefuses, WithFunctions, most_words};
-ghost use Rattle.closure_lift.specs.NamedLift.{bodies, named_constants, named_lift, constants_notes, most_functions, put_parts, IsCrowded, IsLifted, HasConstantsOf, HasFewFunctions, LiftIsRefused};
+ghost use Rattle.closure_lift.specs.NamedLift.{bodies, named_constants, named_lift, constants_notes, put_parts, IsCrowded, IsLifted, HasConstantsOf, HasFewFunctions, LiftIsRefused};
 ghost use Rattle.closure_lift.specs.declared.fault.LiftFault.TheVariants.{Memory};
 
 use crate::fault::LiftFault;

@@ -5,7 +5,7 @@ ghost use Rattle.anf_convert.specs.declared.program.Atom.TheVariants.{Box as ABo
 ghost use Rattle.anf_convert.specs.Captured.{Plain, plains, lam_captured, fix_captured};
 ghost use Rattle.anf_convert.specs.AnfView.{seen as seen_anf};
 ghost use Rattle.closure_lift.specs.Lift.{Holds, held, lift_block, lift_branches, functions_op, functions_block, functions_branches, unnumbered, holding};
-ghost use Rattle.closure_lift.specs.Lifted.{OClos, RetAtom, OpBound};
+ghost use Rattle.closure_lift.specs.Lifted.{ClosOp, TailAtom, OpIs};
 ghost use Rattle.closure_lift.specs.LiftedView.{seen, bounds_of, functions_of};
 ghost use Rattle.closure_lift.specs.FreeVariables.{size, notes_op, notes_block, notes_branches, notes_defs};
 ghost use Rattle.closure_lift.specs.Noting.{notes_bound, notes_def};
@@ -67,7 +67,7 @@ fn frame_of(alloc: Global, words: &Numbers) -> Result<Frame, LiftFault>
 
 /// The block that is box.
 fn boxed(alloc: Global) -> LiftedBlock
-    ensures is { result ≡ RetAtom ABox }
+    ensures is { result ≡ TailAtom ABox }
 {
     LiftedBlock {
         bindings: LiftedOps::of(Vec::new(alloc)),
@@ -215,7 +215,7 @@ fn lift_lambda(
     body: &AnfBlock,
 ) -> Result<LiftedOp, LiftFault>
     requires notes { Stand notes.now (length functions.old.items) (notes_op (size variables.old.0) (LamOp body.now)) }
-    ensures op { IfOk result (λ o. seen o ≡ OpBound (OClos (length functions.old.items) (map (held frame.now) (lam_captured variables.old.0 body.now)))) }
+    ensures op { IfOk result (λ o. seen o ≡ OpIs (ClosOp (length functions.old.items) (map (held frame.now) (lam_captured variables.old.0 body.now)))) }
     ensures functions { OnOk result (WithFunctions functions.old.items functions.new.items (λ g. functions_op variables.old.0 variables.old.1 g (LamOp body.now))) }
     ensures variables { OnOk result (variables.new ≡ variables.old) }
     ensures captures { OnOk result (OpCaptures most_words variables.old.0 (LamOp body.now)) }
@@ -241,7 +241,7 @@ fn lift_fix(
     i: u32,
 ) -> Result<LiftedOp, LiftFault>
     requires notes { Stand notes.now (length functions.old.items) (notes_op (size variables.old.0) (FixOp defs.now 0)) }
-    ensures op { IfOk result (λ o. seen o ≡ OpBound (OClos (length functions.old.items + i) (map (held frame.now) (fix_captured variables.old.0 defs.now)))) }
+    ensures op { IfOk result (λ o. seen o ≡ OpIs (ClosOp (length functions.old.items + i) (map (held frame.now) (fix_captured variables.old.0 defs.now)))) }
     ensures functions { OnOk result (WithFunctions functions.old.items functions.new.items (λ g. functions_op variables.old.0 variables.old.1 g (FixOp defs.now 0))) }
     ensures variables { OnOk result (variables.new ≡ variables.old) }
     ensures captures { OnOk result (OpCaptures most_words variables.old.0 (FixOp defs.now 0)) }

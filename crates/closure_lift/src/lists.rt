@@ -2,7 +2,7 @@
 //!
 //! Contracts see constants with the newest first, as the definitions have them.
 ghost use Rattle.std.specs.Prelude.{◌≡◌, length, reverse, [], ◌∷◌, ◌++◌};
-ghost use Rattle.closure_lift.specs.Lifted.{many};
+ghost use Rattle.closure_lift.specs.Lifted.{branch_count};
 ghost use Rattle.closure_lift.specs.LiftedView.{bounds_of, branches_of, functions_of};
 
 use crate::program::{Function, LiftedBranch, LiftedBranches, LiftedConstant, LiftedOp, LiftedOps};
@@ -155,7 +155,7 @@ impl LiftedBranches {
 
     /// The number of branches.
     pub fn len(&self) -> usize
-        ensures is { result ≡ many self.now }
+        ensures is { result ≡ branch_count self.now }
     {
         self.items.len()
     }

@@ -2,7 +2,7 @@
 use Rattle.std.proofs.Common.{◌≡◌, ◌⊎◌, ◌∙◌, ◌<◌, ◌≤◌, ◌&&◌, ap, sym, subst, refl, ℕ, zero, suc, Bool, true, false, not, List, [], ◌∷◌, length, map, Option, Some, None, is_some, inl, inr, arith, codes}
 use Rattle.std.specs.List.{All, slice_index_or, list_any, list_all}
 use Rattle.std.specs.Str.{bytes_eq}
-use Rattle.std.proofs.lemmas.Bool.{ne_eqb, and_parts}
+use Rattle.std.proofs.lemmas.Bool.{ne_eqb, and_parts, not-true}
 use Rattle.std.proofs.lemmas.List.{get_or-map, length-map}
 use Rattle.std.proofs.lemmas.List.Folds.{list_any_at}
 use Rattle.std.proofs.lemmas.Slice.Eq.{bytes_eq-Decides}
@@ -16,10 +16,6 @@ use Rattle.clap.specs.declared.builder.arg.Arg.{Arg}
 use Rattle.clap.specs.declared.builder.command.Command.{Command}
 use Rattle.clap.specs.declared.builder.command.Command.TheViews.{out-Command}
 use Rattle.clap.specs.declared.builder.value_parser.ValueParser.{ValueParser}
-
-not_true : (a : Bool) → not a ≡ true → a ≡ false
-not_true true h = cc
-not_true false h = refl
 
 pub not_empty : {X : Type 0} (x : X) (xs : List X) → is_empty (x ∷ xs) ≡ false
 not_empty x xs = ne_eqb (length (x ∷ xs)) 0 (λ e. absurd (omega (arith, e)))
@@ -52,12 +48,12 @@ only_place : (rules : List Rule) (id : Text) (k : ℕ) → is_only rules id k �
 only_place [] id k h j e lt same = absurd (omega (arith, lt))
 only_place (r ∷ rs) id zero h zero e lt same = refl
 only_place (r ∷ rs) id zero h (suc j) e lt same =
-    let no = not_true (list_any (λ s. bytes_eq s.id id) rs) h in
+    let no = not-true (list_any (λ s. bytes_eq s.id id) rs) h in
     let yes = list_any_at (λ s. bytes_eq s.id id) rs j e (omega (arith, lt)) same in
     let bad : false ≡ true = sym no ∙ yes in
     cc
 only_place (r ∷ rs) id (suc k) h zero e lt same =
-    let no = not_true (bytes_eq r.id id) (and_parts _ _ h).0 in
+    let no = not-true (bytes_eq r.id id) (and_parts _ _ h).0 in
     let bad : false ≡ true = sym no ∙ same in
     cc
 only_place (r ∷ rs) id (suc k) h (suc j) e lt same = ap suc (only_place rs id k (and_parts _ _ h).1 j e (omega (arith, lt)) same)
@@ -83,7 +79,7 @@ pub record HasRules (c : Command) (rules : List Rule) : Type 0 where
   pub plain : has_plain_fields (out-Command c) ≡ true
 
 pub no_globals : (c : Command) (rules : List Rule) → HasRules c rules → (out-Command c).has_globals ≡ false
-no_globals c rules h = not_true _ (and_parts _ _ (and_parts _ _ (and_parts _ _ h.plain).1).1).0
+no_globals c rules h = not-true _ (and_parts _ _ (and_parts _ _ (and_parts _ _ h.plain).1).1).0
 
 pub no_group : (c : Command) (rules : List Rule) → HasRules c rules → groups_of c ≡ []
 no_group c rules h = no_items _ (and_parts _ _ h.plain).0

@@ -18,11 +18,11 @@ use Rattle.anf_convert.specs.ToAnf.{to_anf}
 use Rattle.closure_lift.specs.CapturedLimit.{ProgramCaptures}
 use Rattle.closure_lift.specs.Lifted.{Program}
 use Rattle.closure_lift.specs.Lift.{lift}
-use Rattle.closure_lift.specs.LiftedForm.{Formed, Limits}
+use Rattle.closure_lift.specs.LiftedForm.{Formed, Limits, most_functions}
 use Rattle.closure_lift.specs.Lifting.{most_words}
 use Rattle.closure_lift.specs.declared.fault.LiftFault.{LiftFault}
 use Rattle.closure_lift.specs.declared.fault.LiftFault.TheVariants as lifting
-use Rattle.closure_lift.specs.NamedLift.{most_functions, LiftIsRefused as IsNotLifted}
+use Rattle.closure_lift.specs.NamedLift.{LiftIsRefused as IsNotLifted}
 use Rattle.wasm_emit.specs.Emission.{Emits}
 use Rattle.wasm_emit.specs.EmittedBodies.{FewLocals, MemoryOrNot}
 use Rattle.wasm_emit.specs.declared.fault.EmitFault.{EmitFault}

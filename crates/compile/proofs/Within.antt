@@ -2,7 +2,7 @@
 use Rattle.std.proofs.Common.{◌≡◌, ℕ, ◌<◌, ◌≤◌, List, refl, sym, subst, arith, inl, inr}
 use Rattle.std.specs.Prelude.{length}
 use Rattle.std.proofs.lemmas.Bool.{cases_lt}
-use Rattle.trees.specs.Measures.{depth}
+use Rattle.trees.specs.Measures.{depth, depth_limit}
 use Rattle.lambda_box.specs.BoxProgram.{BoxConstant, BoxFamily, BoxProgram, Has}
 use Rattle.lambda_box.specs.BoxForm.{IsBoxProgram}
 use Rattle.box_passes.specs.PassLaws.{saturated_program}
@@ -28,18 +28,18 @@ use Rattle.compile.specs.Passes.{IsShallow, CapturesFew, Fits, CompileIsRefused,
 not_more : (n d : ℕ) → (n < d → ⊥) → d ≤ n
 not_more n d h = elim (cases_lt n d) [ inl lt ↦ absurd (h lt) | inr le ↦ le ]
 
-pub main_shallow : (P : BoxProgram) → (IsDeep P → ⊥) → depth P.main ≤ 2048
-main_shallow P h = not_more 2048 (depth P.main) (λ lt. h (deep_main lt))
+pub main_shallow : (P : BoxProgram) → (IsDeep P → ⊥) → depth P.main ≤ depth_limit
+main_shallow P h = not_more depth_limit (depth P.main) (λ lt. h (deep_main lt))
 
-pub constant_shallow : (P : BoxProgram) → (IsDeep P → ⊥) → (d : BoxConstant) → Has P.constants d → depth d.body ≤ 2048
-constant_shallow P h d has = not_more 2048 (depth d.body) (λ lt. h (deep_constant d has lt))
+pub constant_shallow : (P : BoxProgram) → (IsDeep P → ⊥) → (d : BoxConstant) → Has P.constants d → depth d.body ≤ depth_limit
+constant_shallow P h d has = not_more depth_limit (depth d.body) (λ lt. h (deep_constant d has lt))
 
 -- the program in A-normal form of a program within the depth limit has its names in scope
 pub normal_formed : (P : BoxProgram) (m : ℕ) → IsBoxProgram P → IsShallow P → ConstructorsWithin P m → AnfFormed (to_anf (shrunk_program P)) m
 normal_formed P m form shallow few =
     let S = shrunk_program P in
     let kept = shrunk_forms P form in
-    let depths = shrunk_shallow P form 2048 (constant_shallow (saturated_program P) shallow) (main_shallow (saturated_program P) shallow) in
+    let depths = shrunk_shallow P form depth_limit (constant_shallow (saturated_program P) shallow) (main_shallow (saturated_program P) shallow) in
     let fewer : ConstructorsWithin S m = subst (λ (Fs : List BoxFamily). (F : BoxFamily) → Has Fs F → length F.args ≤ m) (sym kept.families) (families P.families m few) in
     form_kept S (to_anf S) refl (all_shallow S.constants depths.0) depths.1 kept.form kept.ordinary m fewer
 

@@ -14,7 +14,7 @@ use Rattle.anf_convert.specs.BoxForms.{ConstructorsWithin}
 use Rattle.anf_convert.specs.ToAnf.{to_anf}
 use Rattle.closure_lift.specs.CapturedLimit.{ProgramCaptures}
 use Rattle.closure_lift.specs.Lifting.{most_words}
-use Rattle.closure_lift.specs.NamedLift.{most_functions}
+use Rattle.closure_lift.specs.LiftedForm.{most_functions}
 use Rattle.closure_lift.specs.declared.fault.LiftFault.{LiftFault}
 use Rattle.closure_lift.specs.declared.fault.LiftFault.TheVariants as lifting
 use Rattle.wasm_core.specs.ModuleTyping.{IsValid}

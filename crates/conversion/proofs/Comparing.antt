@@ -1,7 +1,7 @@
 -- What a comparison answers at its start, and in lists.
 use Rattle.std.proofs.Common.{◌≡◌, sym, refl, ℕ, zero, suc, ◌<◌, ◌≤◌, ◌-◌, ◌+◌, ◌==◌, ◌&&◌, min, ◌⊎◌, inl, inr, Result, Ok, Err, IsTrue, Bool, true, false, List, [], ◌∷◌, length, drop, get_or, Option, Some, subst, arith}
 use Rattle.trees.specs.Tree.{terms_of}
-use Rattle.pc_terms.specs.Syntax.{Term, head, args}
+use Rattle.pc_terms.specs.Syntax.{Term, head, args, list_of}
 use Rattle.pc_terms.specs.Lists.{arms_of}
 use Rattle.pc_terms.specs.declared.term.Branch.{Branch}
 use Rattle.pc_terms.specs.declared.term.Match.{Match}
@@ -23,7 +23,6 @@ use Rattle.pc_rules.specs.Entailment.{test_of}
 use Rattle.pc_rules.specs.Follows.{Follows}
 use Rattle.pc_rules.specs.DirectedRun.{Act, ticked, too_nested, passing, any_beyond, refused, bind, run_all, Leaves}
 use Rattle.calculus_rules.specs.Lookups.{family_of}
-use Rattle.calculus_rules.specs.Listed.{list_of}
 use Rattle.pc_rules.specs.DirectedComparison.{Test, Comparison, compare, entered, entering, each_equal, branches_equal, matches_equal, heads_equal, spines_equal, alike}
 use Rattle.pc_rules.proofs.Following.{follows_spent, follows_nested, follows_entered, follows_bind, follows_err, follows_deep, follows_memory, follows_passing, follows_none, follows_next, follows_first_err, follows_then, follows_else, follows_refused}
 use Rattle.pc_rules.proofs.FairReduction.{FairComparison}

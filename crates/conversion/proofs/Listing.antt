@@ -1,8 +1,7 @@
 -- Lists of terms, branches and definitions, from one item on.
 use Rattle.std.proofs.Common.{◌≡◌, ◌∙◌, ap, refl, ℕ, suc, ◌<◌, ◌+◌, ◌==◌, ◌&&◌, Bool, true, false, List, [], ◌∷◌, length, drop, get_or, ◌≢◌, eq-eqb}
 use Rattle.std.proofs.lemmas.Bool.{and_right}
-use Rattle.trees.specs.Tree.{terms_of}
-use Rattle.pc_terms.specs.Syntax.{Term, number}
+use Rattle.pc_terms.specs.Syntax.{Term}
 use Rattle.pc_terms.specs.View.{tree_of}
 use Rattle.pc_terms.specs.Formed.{binders_of}
 use Rattle.pc_terms.specs.Lists.{arms_of, rargs_of}
@@ -10,6 +9,7 @@ use Rattle.pc_terms.specs.declared.term.Branch.{Branch}
 use Rattle.pc_terms.specs.declared.term.Def.{Def}
 use Rattle.pc_terms.specs.declared.term.Match.{Match}
 use Rattle.pc_terms.specs.declared.term.Node.TheVariants.{Case}
+use Rattle.pc_terms.proofs.Forms.{number_terms}
 use Rattle.calculus_rules.specs.Same.{same_numbers, same_families}
 use Rattle.pc_rules.specs.DirectedComparison.{alike}
 use Rattle.pc_rules.proofs.ListSteps.{next_is}
@@ -52,19 +52,9 @@ binders_other [] (y ∷ ys) h = refl
 binders_other (x ∷ xs) [] h = refl
 binders_other (x ∷ xs) (y ∷ ys) h = and_right (x.binders == y.binders) _ (binders_other xs ys (λ e. h (ap suc e)))
 
-pub rargs_other : (xs ys : List Def) → length xs ≢ length ys → same_numbers (rargs_of xs) (rargs_of ys) ≡ false
-rargs_other [] [] h = absurd (h refl)
-rargs_other [] (y ∷ ys) h = refl
-rargs_other (x ∷ xs) [] h = refl
-rargs_other (x ∷ xs) (y ∷ ys) h = and_right (x.rarg == y.rarg) _ (rargs_other xs ys (λ e. h (ap suc e)))
-
 -- the counts of two matches decide whether they are alike
-
-number_listed : (ts : List Term) → number (terms_of ts) ≡ length ts
-number_listed [] = refl
-number_listed (t ∷ ts) = ap suc (number_listed ts)
 
 pub matches_alike : (x y : Match) (a b : Term) (r : Bool) → tree_of (Case x) ≡ a → tree_of (Case y) ≡ b →
     r ≡ (same_families x.family y.family && ((length x.params == length y.params) && ((x.binders == y.binders) && same_numbers (binders_of (arms_of x.branches)) (binders_of (arms_of y.branches))))) →
     r ≡ alike a b
-matches_alike x y a b r ea eb e = rw (← ea, ← eb, number_listed x.params, number_listed y.params) e
+matches_alike x y a b r ea eb e = rw (← ea, ← eb, number_terms x.params, number_terms y.params) e

@@ -3,7 +3,7 @@ use Rattle.std.proofs.Common.{◌≡◌, sym, ℕ, zero, suc, ◌<◌, List, [],
 use Rattle.trees.specs.Tree.{terms_of}
 use Rattle.universe_levels.specs.declared.sort.Sort.{Sort}
 use Rattle.universe_levels.specs.Consistency.{IsSortOver}
-use Rattle.pc_terms.specs.Syntax.{Term, Terms, SortT, Prod, Lambda, Case, Fix, head, args}
+use Rattle.pc_terms.specs.Syntax.{Term, Terms, SortT, Prod, Lambda, Case, Fix, head, args, list_of}
 use Rattle.pc_terms.specs.Lists.{arms_of}
 use Rattle.pc_terms.specs.declared.leaf.FamilyId.{FamilyId}
 use Rattle.pc_terms.specs.declared.term.Branch.{Branch}
@@ -12,7 +12,6 @@ use Rattle.calculus_rules.specs.Environment.{Env}
 use Rattle.calculus_rules.specs.Context.{Context, Values, values, extend}
 use Rattle.calculus_rules.specs.WeakHead.{WeakSteps}
 use Rattle.pc_rules.specs.WellCounted.{IsCounted, AreCounted, AreCountedValues}
-use Rattle.calculus_rules.specs.Listed.{list_of}
 use Rattle.rule_laws.proofs.Counted.{head_counted, args_counted, list_counted}
 use Rattle.rule_laws.proofs.KeepCounts.{steps_counted}
 use Rattle.conversion.specs.Comparable.{AreComparable}

@@ -4,6 +4,7 @@ ghost use Rattle.calculus_rules.specs.Context.{values};
 ghost use Rattle.pc_rules.specs.Entailment.{test_of};
 ghost use Rattle.pc_rules.specs.Follows.{Follows};
 ghost use Rattle.pc_rules.specs.DirectedComparison.{compare, entered, pair};
+ghost use Rattle.pc_rules.specs.DirectedRun.{most_nested};
 ghost use Rattle.conversion.specs.Comparable.{AreComparable};
 ghost use Rattle.conversion.specs.Modes.{is_equal};
 
@@ -76,7 +77,7 @@ impl<R: Reducer + Drop> Compare<R> {
         b: &Term,
         m: &mut Meter,
     ) -> Result<(), Halt>
-        requires nest { room + m.old.nest ≡ 2048 }
+        requires nest { room + m.old.nest ≡ most_nested }
         requires comparable { AreComparable env.now (values ctx.now) (a.now ∷ []) (b.now ∷ []) }
         ensures follows { Follows (compare env.now (test_of env.now) room ctx.now (is_equal mode) a.now b.now m.old.account) result m.old m.new }
     {
@@ -104,7 +105,7 @@ impl<R: Reducer + Drop> Compare<R> {
         b: &Term,
         m: &mut Meter,
     ) -> Result<(), Halt>
-        requires nest { room + m.old.nest ≡ 2048 }
+        requires nest { room + m.old.nest ≡ most_nested }
         requires comparable { AreComparable env.now (values ctx.now) (a.now ∷ []) (b.now ∷ []) }
         ensures follows { Follows (entered env.now (test_of env.now) (compare env.now (test_of env.now) room) ctx.now (is_equal mode) a.now b.now m.old.account) result m.old m.new }
     {
@@ -129,7 +130,7 @@ impl<R: Reducer + Drop> Compare<R> {
         b: &Term,
         m: &mut Meter,
     ) -> Result<(), Halt>
-        requires nest { room + m.old.nest ≡ 2048 }
+        requires nest { room + m.old.nest ≡ most_nested }
         requires comparable { AreComparable env.now (values ctx.now) (a.now ∷ []) (b.now ∷ []) }
         ensures follows { Follows (pair env.now (test_of env.now) (compare env.now (test_of env.now) room) ctx.now (is_equal mode) a.now b.now m.old.account) result m.old m.new }
     {

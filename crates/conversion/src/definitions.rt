@@ -2,7 +2,7 @@
 ghost use Rattle.std.specs.Prelude.{◌≡◌, IfOk, IfErr, length};
 ghost use Rattle.pc_terms.specs.Lists.{types_of, bodies_of};
 ghost use Rattle.pc_terms.specs.declared.term.MakeFault.TheVariants.{Memory};
-ghost use Rattle.calculus_rules.specs.Listed.{list_of};
+ghost use Rattle.pc_terms.specs.Syntax.{list_of};
 
 use pc_terms::term::{Defs, MakeFault, Terms};
 use std::alloc::Global;

@@ -1,11 +1,11 @@
 //! Fixpoints: the types of their definitions, then the bodies.
 ghost use Rattle.std.specs.Prelude.{◌≡◌, ◌+◌, length};
 ghost use Rattle.pc_terms.specs.Lists.{types_of, bodies_of};
+ghost use Rattle.pc_terms.specs.Syntax.{list_of};
 ghost use Rattle.calculus_rules.specs.Context.{values};
 ghost use Rattle.pc_rules.specs.Entailment.{test_of};
 ghost use Rattle.pc_rules.specs.Follows.{Follows};
-ghost use Rattle.pc_rules.specs.DirectedRun.{run_all};
-ghost use Rattle.calculus_rules.specs.Listed.{list_of};
+ghost use Rattle.pc_rules.specs.DirectedRun.{run_all, most_nested};
 ghost use Rattle.pc_rules.specs.DirectedComparison.{compare, fixpoints_equal, each_equal, entering, lifted_types};
 ghost use Rattle.conversion.specs.Comparable.{AreComparable};
 
@@ -33,7 +33,7 @@ impl<R: Reducer + Drop> Compare<R> {
         es: &Defs,
         m: &mut Meter,
     ) -> Result<(), Halt>
-        requires nest { room + m.old.nest ≡ 2048 }
+        requires nest { room + m.old.nest ≡ most_nested }
         requires types { AreComparable env.now (values ctx.now) (list_of (types_of ds.now)) (list_of (types_of es.now)) }
         requires bodies { AreComparable env.now (values ctx.now) (list_of (bodies_of (length ds.now) ds.now)) (list_of (bodies_of (length es.now) es.now)) }
         ensures follows { Follows (fixpoints_equal (compare env.now (test_of env.now) room) ctx.now (types_of ds.now) (bodies_of (length ds.now) ds.now) (types_of es.now) (bodies_of (length es.now) es.now) m.old.account) result m.old m.new }
@@ -56,7 +56,7 @@ impl<R: Reducer + Drop> Compare<R> {
         es: &Defs,
         m: &mut Meter,
     ) -> Result<(), Halt>
-        requires nest { room + m.old.nest ≡ 2048 }
+        requires nest { room + m.old.nest ≡ most_nested }
         requires bodies { AreComparable env.now (values ctx.now) (list_of (bodies_of (length ds.now) ds.now)) (list_of (bodies_of (length es.now) es.now)) }
         ensures follows { Follows (entering ctx.now (lifted_types 0 (list_of (types_of ds.now))) (λ d. run_all (each_equal (compare env.now (test_of env.now) room) d (list_of (bodies_of (length ds.now) ds.now)) (list_of (bodies_of (length es.now) es.now)))) m.old.account) result m.old m.new }
     {

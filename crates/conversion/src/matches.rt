@@ -1,7 +1,7 @@
 //! Matches: parameters, predicates, scrutinees and branches.
 ghost use Rattle.std.specs.Prelude.{◌≡◌, ◌+◌, [], ◌∷◌, true, List};
 ghost use Rattle.trees.specs.Tree.{terms_of};
-ghost use Rattle.pc_terms.specs.Syntax.{Term};
+ghost use Rattle.pc_terms.specs.Syntax.{Term, list_of};
 ghost use Rattle.pc_terms.specs.Lists.{arms_of};
 ghost use Rattle.pc_terms.specs.View.{tree_of};
 ghost use Rattle.pc_terms.specs.declared.term.Node.TheVariants.{Case};
@@ -10,9 +10,8 @@ ghost use Rattle.calculus_rules.specs.Environment.{with_parameters};
 ghost use Rattle.calculus_rules.specs.Instances.{predicate_entries};
 ghost use Rattle.pc_rules.specs.Entailment.{test_of};
 ghost use Rattle.pc_rules.specs.Follows.{Follows};
-ghost use Rattle.pc_rules.specs.DirectedRun.{run_all};
+ghost use Rattle.pc_rules.specs.DirectedRun.{run_all, most_nested};
 ghost use Rattle.calculus_rules.specs.Lookups.{family_of};
-ghost use Rattle.calculus_rules.specs.Listed.{list_of};
 ghost use Rattle.pc_rules.specs.DirectedComparison.{compare, matches_equal, branches_equal, entering};
 ghost use Rattle.conversion.specs.Comparable.{AreComparable};
 
@@ -46,7 +45,7 @@ impl<R: Reducer + Drop> Compare<R> {
         y: &Match,
         m: &mut Meter,
     ) -> Result<(), Halt>
-        requires nest { room + m.old.nest ≡ 2048 }
+        requires nest { room + m.old.nest ≡ most_nested }
         requires comparable { AreComparable env.now (values ctx.now) (tree_of (Case x.now) ∷ []) (tree_of (Case y.now) ∷ []) }
         ensures follows { Follows (matches_equal (compare env.now (test_of env.now) room) ctx.now x.now.family (family_of env.now x.now.family) (terms_of x.now.params) x.now.ret x.now.scrut (arms_of x.now.branches) (terms_of y.now.params) y.now.ret y.now.scrut (arms_of y.now.branches) m.old.account) result m.old m.new }
     {
@@ -74,7 +73,7 @@ impl<R: Reducer + Drop> Compare<R> {
         y: &Match,
         m: &mut Meter,
     ) -> Result<(), Halt>
-        requires nest { room + m.old.nest ≡ 2048 }
+        requires nest { room + m.old.nest ≡ most_nested }
         requires comparable { AreComparable env.now (values ctx.now) (tree_of (Case x.now) ∷ []) (tree_of (Case y.now) ∷ []) }
         ensures follows { (Ps : List Term) → Follows (entering ctx.now (predicate_entries x.now.family (with_parameters Ps family.now) x.now.params) (λ d. compare env.now (test_of env.now) room d true x.now.ret y.now.ret) m.old.account) result m.old m.new }
     {
@@ -95,7 +94,7 @@ impl<R: Reducer + Drop> Compare<R> {
         y: &Match,
         m: &mut Meter,
     ) -> Result<(), Halt>
-        requires nest { room + m.old.nest ≡ 2048 }
+        requires nest { room + m.old.nest ≡ most_nested }
         requires comparable { AreComparable env.now (values ctx.now) (tree_of (Case x.now) ∷ []) (tree_of (Case y.now) ∷ []) }
         ensures follows { Follows (run_all (branches_equal (compare env.now (test_of env.now) room) ctx.now x.now.params ctors.now (list_of (arms_of x.now.branches)) (list_of (arms_of y.now.branches))) m.old.account) result m.old m.new }
     {
@@ -125,7 +124,7 @@ impl<R: Reducer + Drop> Compare<R> {
         b: &Term,
         m: &mut Meter,
     ) -> Result<(), Halt>
-        requires nest { room + m.old.nest ≡ 2048 }
+        requires nest { room + m.old.nest ≡ most_nested }
         requires comparable { AreComparable env.now (values ctx.now) (a.now ∷ []) (b.now ∷ []) }
         ensures follows { Follows (entering ctx.now entries.now (λ d. compare env.now (test_of env.now) room d true a.now b.now) m.old.account) result m.old m.new }
     {

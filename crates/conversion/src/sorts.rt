@@ -19,7 +19,7 @@ use universe_levels::sort::Sort;
 
 /// Whether a sort is at most another by the environment's constraints, and the other at most the first where they are to be equal. Takes no
 /// memory.
-fn stand(env: &Env, mode: Mode, s: &Sort, t: &Sort) -> bool
+pub fn stand_as(env: &Env, mode: Mode, s: &Sort, t: &Sort) -> bool
     requires constraints { AreOver env.now.levels env.now.constraints }
     requires left { IsSortOver env.now.levels s.now }
     requires right { IsSortOver env.now.levels t.now }
@@ -39,7 +39,7 @@ pub fn compare_sorts(alloc: Global, env: &Env, mode: Mode, s: &Sort, t: &Sort) -
     requires right { IsSortOver env.now.levels t.now }
     ensures answers { (u : Account) → Answers (if sorts_stand (test_of env.now) (is_equal mode) s.now t.now then done tt u else refused (NotBelow (ClashOfSorts s.now t.now)) u) result u }
 {
-    if stand(env, mode, s, t) {
+    if stand_as(env, mode, s, t) {
         return Ok(());
     }
     let left = BoxedSort::new(alloc, s.share(alloc)?)?;

@@ -8,6 +8,7 @@ ghost use Rattle.pc_rules.specs.DirectedComparison.{alike};
 use pc_terms::leaf::FamilyId;
 use pc_terms::term::{Branch, Def, Match, Node, Term, Terms};
 
+/// Whether two numbers of families are the same.
 fn same_families(f: FamilyId, g: FamilyId) -> bool
     ensures is { result ≡ same_families f g }
 {

@@ -6,7 +6,7 @@ ghost use Rattle.pc_rules.specs.declared.broken.Clash.TheVariants.{Terms as Clas
 ghost use Rattle.calculus_rules.specs.Context.{values};
 ghost use Rattle.pc_rules.specs.Entailment.{test_of};
 ghost use Rattle.pc_rules.specs.Follows.{Follows};
-ghost use Rattle.pc_rules.specs.DirectedRun.{run_all};
+ghost use Rattle.pc_rules.specs.DirectedRun.{run_all, most_nested};
 ghost use Rattle.pc_rules.specs.DirectedComparison.{compare, spines_equal, heads_equal, each_equal};
 ghost use Rattle.conversion.specs.Comparable.{AreComparable};
 
@@ -45,7 +45,7 @@ impl<R: Reducer + Drop> Compare<R> {
         b: &Term,
         m: &mut Meter,
     ) -> Result<(), Halt>
-        requires nest { room + m.old.nest ≡ 2048 }
+        requires nest { room + m.old.nest ≡ most_nested }
         requires comparable { AreComparable env.now (values ctx.now) (a.now ∷ []) (b.now ∷ []) }
         ensures follows { Follows (spines_equal env.now (compare env.now (test_of env.now) room) ctx.now a.now b.now m.old.account) result m.old m.new }
     {
@@ -71,7 +71,7 @@ impl<R: Reducer + Drop> Compare<R> {
         b: &Term,
         m: &mut Meter,
     ) -> Result<(), Halt>
-        requires nest { room + m.old.nest ≡ 2048 }
+        requires nest { room + m.old.nest ≡ most_nested }
         requires comparable { AreComparable env.now (values ctx.now) (a.now ∷ []) (b.now ∷ []) }
         ensures follows { Follows (heads_equal env.now (compare env.now (test_of env.now) room) ctx.now a.now b.now m.old.account) result m.old m.new }
     {
@@ -104,7 +104,7 @@ impl<R: Reducer + Drop> Compare<R> {
         us: &Terms,
         m: &mut Meter,
     ) -> Result<(), Halt>
-        requires nest { room + m.old.nest ≡ 2048 }
+        requires nest { room + m.old.nest ≡ most_nested }
         requires comparable { AreComparable env.now (values ctx.now) ts.now us.now }
         ensures follows { Follows (run_all (each_equal (compare env.now (test_of env.now) room) ctx.now ts.now us.now) m.old.account) result m.old m.new }
     {

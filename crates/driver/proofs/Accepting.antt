@@ -23,7 +23,7 @@ use Rattle.calculus_rules.specs.Accepted.{env}
 use Rattle.calculus_rules.specs.Same.{same_names}
 use Rattle.pc_rules.specs.Entailment.{entailed_by}
 use Rattle.pc_rules.specs.declared.broken.Broken.TheVariants.{DuplicateName}
-use Rattle.pc_rules.specs.DirectedRun.{Run, done, refused, make, ticked, noted, paid, ticking, bind}
+use Rattle.pc_rules.specs.DirectedRun.{Run, done, refused, make, ticked, noted, paid, ticking, bind, most_nested}
 use Rattle.calculus_rules.specs.Lookups.{kept_at, whole_block}
 use Rattle.pc_rules.specs.DirectedComparison.{Test, Comparison, compare}
 use Rattle.pc_rules.specs.DirectedTyping.{Typing, infer, sorts_of, check_all, undeclared_in, levels_declared, find_family, family_number, constructor_number, construct_rule}
@@ -54,8 +54,7 @@ use Rattle.dump_reader.specs.declared.declaration.RawDecl.{RawDecl}
 use Rattle.dump_reader.specs.declared.declaration.RawDecl.TheVariants as raw
 use Rattle.dump_reader.specs.declared.environment.RawEnv.{RawEnv}
 use Rattle.inductive_check.specs.Given.{ctor_of, family_of, block_of, given_of}
-use Rattle.pc_rules.proofs.WeakNext.{same_names_is}
-use Rattle.rule_laws.proofs.SimpleRules.{some_none}
+use Rattle.pc_rules.proofs.WeakNext.{none_some, same_names_is}
 use Rattle.env_check.specs.Rules.{rules_of, givens}
 use Rattle.driver.specs.Judged.{name_of, start, status_by, EndsWith}
 use Rattle.driver.specs.Plain.{set_sort, IsConstant, IsEnumeration, IsEnumerationBlock}
@@ -213,7 +212,7 @@ all_kept (d ∷ ds) ks = all_kept ds (keep d ∷ ks)
 
 beside : (d : RawDecl) (ks : List Kept) (k : Name) (x : Kept) (b : Bool) → same_names (block_of d).name k ≡ b → IsNewIn ks d → kept_at ks k ≡ Some x →
     (if b then Some (keep d) else kept_at ks k) ≡ Some x
-beside d ks k x true e n h = absurd (some_none (sym h ∙ ap (kept_at ks) (sym (sym (kept_name d) ∙ same_names_is (block_of d).name k e)) ∙ n))
+beside d ks k x true e n h = absurd (none_some (sym (sym h ∙ ap (kept_at ks) (sym (sym (kept_name d) ∙ same_names_is (block_of d).name k e)) ∙ n)))
 beside d ks k x false e n h = h
 
 still_kept : (ks : List Kept) (ds : List RawDecl) (k : Name) (x : Kept) → kept_at ks k ≡ Some x → AreNew ks ds → kept_at (all_kept ds ks) k ≡ Some x
@@ -349,12 +348,12 @@ main_is ds f n h new d =
 
 accepted : (turns : ℕ) → 0 < turns → (ds : List RawDecl) (f : FamilyId) (n : ℕ) (q : Test) → All IsEnumerationBlock ds → All HasDistinctNames ds → AllPairs IsOther ds →
     DeclaresConstructor ds f n →
-    declarations_rule 0 [] q 2048 0 [] (map given_of ds) (Construct f n) (start turns) ≡ accepts (env 0 [] (all_kept ds [])) (Ind f) (noted 9 (ticked (start turns)))
+    declarations_rule 0 [] q most_nested 0 [] (map given_of ds) (Construct f n) (start turns) ≡ accepts (env 0 [] (all_kept ds [])) (Ind f) (noted 9 (ticked (start turns)))
 accepted zero some ds f n q h p distinct d = absurd (omega (arith, some))
 accepted (suc t) some ds f n q h p distinct d =
     let new = are_new [] ds (none_new ds) distinct in
     let a = main_is ds f n h new d in
-    declarations_pass 0 [] q 2048 0 [] ds (Construct f n) (start (suc t)) new h p
+    declarations_pass 0 [] q most_nested 0 [] ds (Construct f n) (start (suc t)) new h p
     ∙ main_passes (env 0 [] (all_kept ds [])) q 2047 f n a.family a.ctors a.ctor a.kept a.first a.is_ctor a.no_argument (start (suc t)) t refl
 
 -- every environment over no level and no constraint is consistent
@@ -368,18 +367,18 @@ consistent e none = (
 )
 
 -- how its check ends
-pub answerable_rules : (turns : ℕ) (e : RawEnv) → 0 < turns → (a : IsAnswerable e) → rules_of e None 2048 (start turns) ≡ accepts (env 0 [] (all_kept e.decls [])) (Ind a.id) (noted 9 (ticked (start turns)))
+pub answerable_rules : (turns : ℕ) (e : RawEnv) → 0 < turns → (a : IsAnswerable e) → rules_of e None most_nested (start turns) ≡ accepts (env 0 [] (all_kept e.decls [])) (Ind a.id) (noted 9 (ticked (start turns)))
 answerable_rules turns e some a =
-    ap (λ ls. environment_rule ls e.constraints None (entailed_by (length ls) e.constraints) 2048 (givens e) e.main (start turns)) a.plain.no_level
-    ∙ ap (λ cs. environment_rule [] cs None (entailed_by 0 cs) 2048 (givens e) e.main (start turns)) a.plain.no_constraint
-    ∙ ap (λ t. declarations_rule 0 [] (entailed_by 0 []) 2048 0 [] (givens e) t (start turns)) a.plain.main_is
+    ap (λ ls. environment_rule ls e.constraints None (entailed_by (length ls) e.constraints) most_nested (givens e) e.main (start turns)) a.plain.no_level
+    ∙ ap (λ cs. environment_rule [] cs None (entailed_by 0 cs) most_nested (givens e) e.main (start turns)) a.plain.no_constraint
+    ∙ ap (λ t. declarations_rule 0 [] (entailed_by 0 []) most_nested 0 [] (givens e) t (start turns)) a.plain.main_is
     ∙ accepted turns some e.decls a.id a.number (entailed_by 0 []) a.plain.blocks a.constructors a.distinct a.main_declared
 
 pub answerable_ends : (turns : ℕ) (e : RawEnv) → 0 < turns → IsAnswerable e → EndsWith turns e 0
 answerable_ends turns e some a =
     let is = answerable_rules turns e some a in
     record {
-      rules = rules_of e None 2048 (start turns);
+      rules = rules_of e None most_nested (start turns);
       judged = record { cycle = None; found = λ once declared. consistent e a.plain.no_constraint; is = refl };
       within = ap (λ d. d.deep) is;
       status_is = ap (λ d. status_by d.outcome) (sym is);

@@ -1,5 +1,6 @@
 -- The stages to the module for calls of main hand on one thing each, and the statuses of their refusals are those of their ends.
 use Rattle.std.proofs.Common.{◌≡◌, ◌≢◌, ℕ, List, length, false, Err, refl, sym, ap, subst, ◌∙◌}
+use Rattle.std.proofs.lemmas.List.{length-map}
 use Rattle.pc_terms.specs.Syntax.{Term}
 use Rattle.pc_rules.specs.declared.meter.Account.{Account}
 use Rattle.calculus_rules.specs.Environment.{Env}
@@ -21,7 +22,6 @@ use Rattle.driver.specs.CallStages.{SignatureSays, Signing, CallErasing, CallCom
 use Rattle.driver.specs.Exported.{CallRulesAreWithin}
 use Rattle.driver.proofs.CheckCauses.{deep_or_not, not_zero}
 use Rattle.driver.proofs.ExecCauses.{erased_status, erasure_status, not_passed, one_acceptance, program_in}
-use Rattle.driver.proofs.Limited.{length-map}
 
 -- ---- the search for a signature
 
@@ -78,7 +78,7 @@ module _ (turns : ℕ) (e : RawEnv) where
   one_answer_set x y = ap (λ z. answer_in z (set_of x.signature.answer)) (both_signed x y)
 
   pub one_argument_count : (x y : Signing turns e) → argument_count x ≡ argument_count y
-  one_argument_count x y = sym (length-map set_of x.signature.args) ∙ ap length (one_argument_sets x y) ∙ length-map set_of y.signature.args
+  one_argument_count x y = sym (length-map x.signature.args set_of) ∙ ap length (one_argument_sets x y) ∙ length-map y.signature.args set_of
 
   one_account : (x y : Signing turns e) → x.left ≡ y.left
   one_account x y = ap (λ z. signed_account_in z x.left) (both_signed x y)

@@ -3,6 +3,7 @@ use Rattle.std.proofs.Common.{◌≡◌, ◌∙◌, ℕ, ◌<◌, ◌≤◌, ◌
 use Rattle.std.specs.Prelude.{IfOk, IfErr, OnOk, replicate}
 use Rattle.pc_terms.specs.Syntax.{Term}
 use Rattle.calculus_rules.specs.Environment.{Env}
+use Rattle.pc_rules.specs.DirectedRun.{most_nested}
 use Rattle.reports.specs.Shown.{Shown}
 use Rattle.module_run.specs.RunFacts.{AreTold}
 use Rattle.pc_rules.specs.declared.broken.Broken.{Broken as Rule}
@@ -62,8 +63,8 @@ taken_with e items units taken = λ turns enough cycle found. not_refused e item
 -- ---- what the making says, with a new meter
 
 module _ (turns : ℕ) (e : RawEnv) (m m' : Meter) (none : m.nest ≡ 0) (fresh : m.account ≡ start turns) where
-  its_making : (cycle : Option (List ℕ)) → making_of e cycle (2048 - m.nest) m.account ≡ making_with turns e cycle
-  its_making cycle = λ i. making_of e cycle (2048 - none i) (fresh i)
+  its_making : (cycle : Option (List ℕ)) → making_of e cycle (most_nested - m.nest) m.account ≡ making_with turns e cycle
+  its_making cycle = λ i. making_of e cycle (most_nested - none i) (fresh i)
 
   pub making_says : (items : Items) → MakesCert e (Ok items) m m' → FollowsDirected e (Ok items) m m' → IsCertificateOf e items (m.account.left - m'.account.left) → IsCertifiedWith turns e items m'.account
   making_says items h d v =
@@ -80,7 +81,7 @@ module _ (turns : ℕ) (e : RawEnv) (m m' : Meter) (none : m.nest ≡ 0) (fresh 
   pub making_why : (r : CertRefusal) → FollowsDirected e (Err r) m m' → WhySays turns e r
   making_why Memory d = tt
   making_why r d =
-      (m'.account, subst (λ (u : Account). DirectedFound e 2048 u (Err r) m'.account) fresh (subst (λ (k : ℕ). DirectedFound e (2048 - k) m.account (Err r) m'.account) none d))
+      (m'.account, subst (λ (u : Account). DirectedFound e most_nested u (Err r) m'.account) fresh (subst (λ (k : ℕ). DirectedFound e (most_nested - k) m.account (Err r) m'.account) none d))
 
 -- ---- a refusal
 

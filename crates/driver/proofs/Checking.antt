@@ -12,6 +12,7 @@ use Rattle.pc_rules.specs.declared.broken.Place.{Place}
 use Rattle.pc_rules.specs.declared.broken.Place.TheVariants.{Declaration}
 use Rattle.pc_rules.specs.declared.meter.Account.{Account}
 use Rattle.pc_rules.specs.DirectedDeclarations.{Breaks}
+use Rattle.pc_rules.specs.DirectedRun.{most_nested}
 use Rattle.env_check.specs.declared.refusal.Refusal.TheVariants.{Broken, Spent, TooDeep}
 use Rattle.env_check.specs.Answers.{AnswersFound}
 use Rattle.env_check.specs.Rules.{rules_of}
@@ -30,33 +31,33 @@ pub begins : (turns : ℕ) (u : Account) → u.left ≡ turns → u.uses ≡ rep
 begins turns u e f = λ i. record { left = e i; uses = f i }
 
 module _ (turns : ℕ) (e : RawEnv) (n : ℕ) (u v : Account) (none : n ≡ 0) (fresh : u ≡ start turns) where
-  judged : (c : Option (List ℕ)) → rules_of e c (2048 - n) u ≡ rules_of e c 2048 (start turns)
-  judged c = (λ i. rules_of e c (2048 - none i) u) ∙ ap (rules_of e c 2048) fresh
+  judged : (c : Option (List ℕ)) → rules_of e c (most_nested - n) u ≡ rules_of e c most_nested (start turns)
+  judged c = (λ i. rules_of e c (most_nested - none i) u) ∙ ap (rules_of e c most_nested) fresh
 
-  pub accepted_with : (a : Accepted) → AnswersFound e (2048 - n) u (Ok a) v → IsAcceptedWith turns e a.env a.main_type v
+  pub accepted_with : (a : Accepted) → AnswersFound e (most_nested - n) u (Ok a) v → IsAcceptedWith turns e a.env a.main_type v
   accepted_with a h = record {
-    rules = rules_of e h.cycle (2048 - n) u;
+    rules = rules_of e h.cycle (most_nested - n) u;
     judged = record { cycle = h.cycle; found = h.found; is = judged h.cycle };
     accepts = h.answers;
   }
 
-  pub spent_by : (p : Place) (before : Account) → AnswersFound e (2048 - n) u (Err (Spent p before)) v → IsSpentBy turns e
+  pub spent_by : (p : Place) (before : Account) → AnswersFound e (most_nested - n) u (Err (Spent p before)) v → IsSpentBy turns e
   spent_by p before h = record {
-    rules = rules_of e h.cycle (2048 - n) u;
+    rules = rules_of e h.cycle (most_nested - n) u;
     judged = record { cycle = h.cycle; found = h.found; is = judged h.cycle };
     spends = h.answers.0;
   }
 
-  pub too_deep_for : (p : Place) → AnswersFound e (2048 - n) u (Err (TooDeep p)) v → IsTooDeepFor turns e
+  pub too_deep_for : (p : Place) → AnswersFound e (most_nested - n) u (Err (TooDeep p)) v → IsTooDeepFor turns e
   too_deep_for p h = record {
-    rules = rules_of e h.cycle (2048 - n) u;
+    rules = rules_of e h.cycle (most_nested - n) u;
     judged = record { cycle = h.cycle; found = h.found; is = judged h.cycle };
     deep = h.answers;
   }
 
-  pub broken_by : (p : Place) (b : Rule) (number : ℕ) (told : Where) → AnswersFound e (2048 - n) u (Err (Broken p b)) v → number ≡ number_of b → PlaceIsTold e p told → IsBrokenBy turns e number told
+  pub broken_by : (p : Place) (b : Rule) (number : ℕ) (told : Where) → AnswersFound e (most_nested - n) u (Err (Broken p b)) v → number ≡ number_of b → PlaceIsTold e p told → IsBrokenBy turns e number told
   broken_by p b number told h is t = record {
-    rules = rules_of e h.cycle (2048 - n) u;
+    rules = rules_of e h.cycle (most_nested - n) u;
     judged = record { cycle = h.cycle; found = h.found; is = judged h.cycle };
     place = p;
     rule = b;
@@ -66,9 +67,9 @@ module _ (turns : ℕ) (e : RawEnv) (n : ℕ) (u v : Account) (none : n ≡ 0) (
     told_is = t;
   }
 
-  pub broken_within : (p : Place) (b : Rule) (i : ℕ) → AnswersFound e (2048 - n) u (Err (Broken p b)) v → p ≡ Declaration i → i < length e.decls
+  pub broken_within : (p : Place) (b : Rule) (i : ℕ) → AnswersFound e (most_nested - n) u (Err (Broken p b)) v → p ≡ Declaration i → i < length e.decls
   broken_within p b i h is =
-      place_within e h.cycle (2048 - n) u i b v (h.answers ∙ ap (λ q. Breaks q b v) is)
+      place_within e h.cycle (most_nested - n) u i b v (h.answers ∙ ap (λ q. Breaks q b v) is)
 
 -- the name of a declaration that is read stands in the table
 pub declared_name_there : (e : RawEnv) → IsSpelled e → (i : ℕ) (d : RawDecl) → slice_get e.decls i ≡ Some d → (name : List ℕ) × IsTableName e (name_of d).0 name

@@ -1,7 +1,7 @@
 -- What erasure's refusals tell of the environment that was read: the name of a constant without a body, and the place of a broken rule.
 use Rattle.std.proofs.Common.{◌≡◌, ℕ, ◌<◌, ◌-◌, List, length, map, Option, Result, Err, refl, sym, ap, subst, ◌∙◌, arith}
 use Rattle.std.specs.Prelude.{slice_get}
-use Rattle.std.proofs.lemmas.List.{length-reverse}
+use Rattle.std.proofs.lemmas.List.{length-reverse, length-map}
 use Rattle.std.proofs.lemmas.Option.{slice_get-map}
 use Rattle.pc_terms.specs.declared.leaf.Name.{Name}
 use Rattle.pc_terms.specs.Syntax.{Term}
@@ -16,7 +16,7 @@ use Rattle.pc_rules.specs.declared.stop.Halt.{Halt}
 use Rattle.pc_rules.specs.declared.stop.Halt.TheVariants as halts
 use Rattle.calculus_rules.specs.Environment.{Env, Has, KeepsConstant, name_of as kept_name}
 use Rattle.pc_rules.specs.Entailment.{test_of}
-use Rattle.pc_rules.specs.DirectedRun.{Run}
+use Rattle.pc_rules.specs.DirectedRun.{Run, most_nested}
 use Rattle.pc_rules.specs.DirectedTyping.{Typing}
 use Rattle.rule_laws.specs.Declarations.{plain, plain_given, IsCheckedEnvironment}
 use Rattle.inductive_check.specs.Given.{given_of}
@@ -37,7 +37,6 @@ use Rattle.driver.specs.Judged.{IsTableName, name_of}
 use Rattle.driver.specs.ErasureParts.{HaltSays}
 use Rattle.driver.specs.ExecEnds.{erasure_of, ErasureSays}
 use Rattle.driver.proofs.Checking.{declared_name_there}
-use Rattle.driver.proofs.Limited.{length-map}
 use Rattle.driver.proofs.Kept.{has_reversed, has_place}
 use Rattle.calculus_rules.proofs.Listing.{has_map, from_map}
 
@@ -69,7 +68,7 @@ place_within i (at_body f h) e = body_within i h e
 
 as_many : (e : RawEnv) (E : Env) (T : Term) → IsCheckedEnvironment e.levels e.constraints (givens e) e.main E T → length E.declarations ≡ length e.decls
 as_many e E T checked =
-    sym (length-map plain E.declarations) ∙ ap length checked.declarations ∙ length-reverse (map plain_given (givens e)) ∙ length-map plain_given (givens e) ∙ length-map given_of e.decls
+    sym (length-map E.declarations plain) ∙ ap length checked.declarations ∙ length-reverse (map plain_given (givens e)) ∙ length-map (givens e) plain_given ∙ length-map e.decls given_of
 
 pub halt_within : (e : RawEnv) (E : Env) (T : Term) (inf : Typing) (main : Term) (u v : Account) (p : Place) (h : Halt) (b : Rule) (i : ℕ) → IsCheckedEnvironment e.levels e.constraints (givens e) e.main E T →
     HaltsAtPlace E inf main u (Halted p h) v → h ≡ halts.Broken b → p ≡ Declaration i → i < length e.decls
@@ -88,6 +87,6 @@ module _ (e : RawEnv) (E : Env) (t : Term) (u w : Account) where
   halt_says p h _ x y = absurd x
 
 -- the rules for nothing that stands around, as those of a job
-pub as_of_job : (E : Env) (t : Term) (n : ℕ) (u w : Account) (r : Result BoxProgram EraseRefusal) → n ≡ 0 → AnswersAt (erased_program E (test_of E) (2048 - n) t u) (answered r) w →
+pub as_of_job : (E : Env) (t : Term) (n : ℕ) (u w : Account) (r : Result BoxProgram EraseRefusal) → n ≡ 0 → AnswersAt (erased_program E (test_of E) (most_nested - n) t u) (answered r) w →
     AnswersAt (erasure_of E t u) (answered r) w
-as_of_job E t n u w r none h = subst (λ k. AnswersAt (erased_program E (test_of E) (2048 - k) t u) (answered r) w) none h
+as_of_job E t n u w r none h = subst (λ k. AnswersAt (erased_program E (test_of E) (most_nested - k) t u) (answered r) w) none h

@@ -1,6 +1,7 @@
 -- What the job `explain` says, from its check and its texts.
 use Rattle.std.proofs.Common.{◌≡◌, ℕ, ◌<◌, ◌-◌, List, [], length, ◌++◌, Result, Ok, Err, inl, inr, refl, sym, ap, subst, ◌∙◌}
 use Rattle.std.specs.Prelude.{IfOk, IfErr, OnOk, codes}
+use Rattle.pc_rules.specs.DirectedRun.{most_nested}
 use Rattle.reports.specs.declared.fact.Fact.{Fact}
 use Rattle.reports.specs.Shown.{Shown}
 use Rattle.reports.proofs.FactByFact.{all_told_none}
@@ -63,13 +64,13 @@ text_says view (Err a) turns e fault r same h t = tt
 
 -- a refusal of a check that begins with a new meter
 module _ (turns : ℕ) (e : RawEnv) (m m' : Meter) (none : m.nest ≡ 0) (fresh : m.account ≡ start turns) where
-  answers_fresh : (r : Fault) → AnswersFound e (2048 - m.nest) m.account (Err r) m'.account → AnswersFound e 2048 (start turns) (Err r) m'.account
-  answers_fresh r h = subst (λ u. AnswersFound e 2048 u (Err r) m'.account) fresh (subst (λ k. AnswersFound e (2048 - k) m.account (Err r) m'.account) none h)
+  answers_fresh : (r : Fault) → AnswersFound e (most_nested - m.nest) m.account (Err r) m'.account → AnswersFound e most_nested (start turns) (Err r) m'.account
+  answers_fresh r h = subst (λ u. AnswersFound e most_nested u (Err r) m'.account) fresh (subst (λ k. AnswersFound e (most_nested - k) m.account (Err r) m'.account) none h)
 
-  stands_fresh : (r : Fault) → StandsAt (bare e) (2048 - m.nest) (givens e) e.main m.account r → StandsAt (bare e) 2048 (givens e) e.main (start turns) r
-  stands_fresh r h = subst (λ u. StandsAt (bare e) 2048 (givens e) e.main u r) fresh (subst (λ k. StandsAt (bare e) (2048 - k) (givens e) e.main m.account r) none h)
+  stands_fresh : (r : Fault) → StandsAt (bare e) (most_nested - m.nest) (givens e) e.main m.account r → StandsAt (bare e) most_nested (givens e) e.main (start turns) r
+  stands_fresh r h = subst (λ u. StandsAt (bare e) most_nested (givens e) e.main u r) fresh (subst (λ k. StandsAt (bare e) (most_nested - k) (givens e) e.main m.account r) none h)
 
-  pub fault_says : (r : Fault) → FollowsRules e (Err r) m m' → StandsAt (bare e) (2048 - m.nest) (givens e) e.main m.account r → FaultSays turns e r
+  pub fault_says : (r : Fault) → FollowsRules e (Err r) m m' → StandsAt (bare e) (most_nested - m.nest) (givens e) e.main m.account r → FaultSays turns e r
   fault_says faults.Memory h s = tt
   fault_says r h s = record { left = m'.account; answers = answers_fresh r h; stands = stands_fresh r s }
 

@@ -1,5 +1,6 @@
 -- What the directed rules say of an environment: the same status whichever cycle is found; and a broken rule's place is one of it.
 use Rattle.std.proofs.Common.{◌≡◌, ℕ, suc, ◌+◌, ◌<◌, List, [], ◌∷◌, length, Option, Some, None, refl, sym, ap, subst, ◌∙◌, arith}
+use Rattle.std.proofs.lemmas.List.{length-map}
 use Rattle.universe_levels.specs.declared.level.Level.{Level}
 use Rattle.universe_levels.specs.declared.constraint.Constraint.{Constraint}
 use Rattle.pc_terms.specs.Syntax.{Term}
@@ -16,11 +17,11 @@ use Rattle.pc_rules.specs.DirectedTyping.{infer}
 use Rattle.pc_rules.specs.DirectedPlaces.{and_then}
 use Rattle.pc_rules.specs.DirectedDeclarations.{Given, Outcome, Accepts, Breaks, Checked, placed_end, first_repeated, first_undeclared_end, declarations_rule, declaration_rule, main_rule, IsCycle, graph_rule, constraints_rule, levels_rule}
 use Rattle.dump_reader.specs.declared.environment.RawEnv.{RawEnv}
+use Rattle.pc_rules.specs.DirectedRun.{most_nested}
 use Rattle.inductive_check.specs.Given.{given_of}
 use Rattle.env_check.specs.Rules.{rules_of, givens, IsFound}
 use Rattle.env_check.proofs.Cycles.{no_cycle}
 use Rattle.driver.specs.Judged.{IsJudged, status_by}
-use Rattle.driver.proofs.Limited.{length-map}
 
 -- two ends with the same status, of which both have passed a limit or none has
 pub record AreAlike (d e : Checked) : Type 0 where
@@ -52,7 +53,7 @@ rules_alike e a b n u h k =
 
 pub judged_alike : (turns : ℕ) → (e : RawEnv) (d d' : Checked) → IsJudged turns e d → IsJudged turns e d' → AreAlike d d'
 judged_alike turns e d d' h k =
-    let both = rules_alike e h.cycle k.cycle 2048 _ h.found k.found in
+    let both = rules_alike e h.cycle k.cycle most_nested _ h.found k.found in
     record {
       status = ap (λ x. status_by x.outcome) h.is ∙ both.status ∙ sym (ap (λ x. status_by x.outcome) k.is);
       deep = ap (λ x. x.deep) h.is ∙ both.deep ∙ sym (ap (λ x. x.deep) k.is);
@@ -122,5 +123,5 @@ place_within e c n u j b v h =
     let two = constraints_at (first_undeclared_end (length e.levels) 0 e.constraints) _ u j one in
     let three = graph_at c _ u j two in
     let below = declarations_at (length e.levels) e.constraints _ n 0 [] (givens e) e.main u j three in
-    let many : length (givens e) ≡ length e.decls = length-map given_of e.decls in
+    let many : length (givens e) ≡ length e.decls = length-map e.decls given_of in
     omega (arith, below, many)

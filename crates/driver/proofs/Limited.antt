@@ -1,7 +1,8 @@
 -- What a text within the limits says of the declarations that it spells: each family has few constructors.
-use Rattle.std.proofs.Common.{◌≡◌, ℕ, zero, suc, ◌+◌, ◌<◌, ◌≤◌, List, [], ◌∷◌, map, length, Some, None, refl, sym, ap, subst, ◌∙◌, arith}
+use Rattle.std.proofs.Common.{◌≡◌, ℕ, zero, suc, ◌+◌, ◌<◌, ◌≤◌, List, [], ◌∷◌, map, length, Some, None, sym, ap, subst, ◌∙◌, arith}
 use Rattle.std.specs.Prelude.{slice_get, nat_lt}
 use Rattle.std.proofs.lemmas.Bool.{ltb-true}
+use Rattle.std.proofs.lemmas.List.{length-map}
 use Rattle.dump_grammar.specs.declared.refusal.Limit.TheVariants as limits
 use Rattle.dump_grammar.specs.Declarations.{CtorForm, FamilyForm, DeclForm, ConstantForm, BlockForm, constructor_meaning, family_meaning, declaration_meaning}
 use Rattle.dump_grammar.specs.Limits.{first, one_more_over}
@@ -20,16 +21,12 @@ few-ctors n (c ∷ cs) h e =
     let more : (n + 1) + length cs ≤ 1024 = few-ctors (n + 1) cs (omega (arith, room)) rest in
     omega (arith, more)
 
-pub length-map : {X Y : Type 0} (f : X → Y) (xs : List X) → length (map f xs) ≡ length xs
-length-map f [] = refl
-length-map f (x ∷ xs) = ap suc (length-map f xs)
-
 few-in-family : (f : FamilyForm) (g : NamedFamily) → family_meaning f ≡ g → family_over f ≡ None → length g.ctors ≤ 1024
 few-in-family f g same over =
     let p = none_both (sort_over f.sort) (first (bindings_over 0 f.indices) (ctors_over 0 f.ctors)) over in
     let q = none_both (bindings_over 0 f.indices) (ctors_over 0 f.ctors) p.1 in
     let few : 0 + length f.ctors ≤ 1024 = few-ctors 0 f.ctors (omega arith) q.1 in
-    let many : length g.ctors ≡ length f.ctors = ap (λ x. length x.ctors) (sym same) ∙ length-map constructor_meaning f.ctors in
+    let many : length g.ctors ≡ length f.ctors = ap (λ x. length x.ctors) (sym same) ∙ length-map f.ctors constructor_meaning in
     omega (arith, few, many)
 
 few-in-families : (fs : List FamilyForm) (n j : ℕ) (g : NamedFamily) → slice_get (map family_meaning fs) j ≡ Some g → families_over n fs ≡ None → length g.ctors ≤ 1024

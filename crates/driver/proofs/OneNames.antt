@@ -5,27 +5,22 @@ use Rattle.pc_terms.specs.Syntax.{Ind, apply, args, head}
 use Rattle.calculus_rules.specs.Environment.{Env, KeepsFamily}
 use Rattle.calculus_rules.specs.Laws.{OneEach}
 use Rattle.calculus_rules.proofs.Spines.{spine_is}
+use Rattle.calculus_rules.proofs.Listing.{first_same, rest_same}
 use Rattle.first_order.specs.declared.shapes.Shape.{Shape}
 use Rattle.first_order.specs.declared.shapes.Shapes.{Shapes}
 use Rattle.first_order.specs.declared.shapes.ShapeCtor.{ShapeCtor}
 use Rattle.first_order.specs.Awaited.{argument_sets}
-use Rattle.first_order.specs.DirectedSignature.{AreAllNamed, set_of, sets_of}
+use Rattle.first_order.specs.DirectedSignature.{AreAllNamed, sets_of}
 use Rattle.first_order.specs.Searching.{AreNamed, IsNamed, ctor_name, family_in, member, members, places}
-
-pub head_is : {X : Type 0} (x y : X) (xs ys : List X) → x ∷ xs ≡ y ∷ ys → x ≡ y
-head_is x y xs ys e = cc
-
-pub tail_is : {X : Type 0} (x y : X) (xs ys : List X) → x ∷ xs ≡ y ∷ ys → xs ≡ ys
-tail_is x y xs ys e = cc
 
 same_ctors : (ks ls : List ShapeCtor) → map ctor_name ks ≡ map ctor_name ls → map places ks ≡ map places ls → ks ≡ ls
 same_ctors [] [] e f = refl
 same_ctors [] (l ∷ ls) e f = absurd cc
 same_ctors (k ∷ ks) [] e f = absurd cc
 same_ctors (k ∷ ks) (l ∷ ls) e f =
-    let name = head_is (ctor_name k) (ctor_name l) (map ctor_name ks) (map ctor_name ls) e in
-    let args = head_is (places k) (places l) (map places ks) (map places ls) f in
-    let rest = same_ctors ks ls (tail_is (ctor_name k) (ctor_name l) (map ctor_name ks) (map ctor_name ls) e) (tail_is (places k) (places l) (map places ks) (map places ls) f) in
+    let name : ctor_name k ≡ ctor_name l = first_same e in
+    let args : places k ≡ places l = first_same f in
+    let rest = same_ctors ks ls (rest_same e) (rest_same f) in
     λ i. (record { name = name i; args = args i }) ∷ rest i
 
 module _ (E : Env) (one : OneEach E) where
@@ -45,8 +40,8 @@ module _ (E : Env) (one : OneEach E) where
   shapes_alike [] (g ∷ R) s r e = absurd cc
   shapes_alike (h ∷ S) [] s r e = absurd cc
   shapes_alike (h ∷ S) (g ∷ R) s r e =
-      let first = shape_alike h g (All-head (IsNamed E) h S s) (All-head (IsNamed E) g R r) (head_is (member h) (member g) (members S) (members R) e) in
-      let rest = shapes_alike S R (All-tail (IsNamed E) h S s) (All-tail (IsNamed E) g R r) (tail_is (member h) (member g) (members S) (members R) e) in
+      let first = shape_alike h g (All-head (IsNamed E) h S s) (All-head (IsNamed E) g R r) (first_same e) in
+      let rest = shapes_alike S R (All-tail (IsNamed E) h S s) (All-tail (IsNamed E) g R r) (rest_same e) in
       λ i. first i ∷ rest i
 
   -- so of the sets of arguments
@@ -55,6 +50,6 @@ module _ (E : Env) (one : OneEach E) where
   sets_alike [] (g ∷ rs) s r e = absurd cc
   sets_alike (h ∷ ss) [] s r e = absurd cc
   sets_alike (h ∷ ss) (g ∷ rs) s r e =
-      let first = shapes_alike h.types g.types (All-head (λ (x : Shapes). AreNamed E x.types) h ss s) (All-head (λ (x : Shapes). AreNamed E x.types) g rs r) (head_is (set_of h) (set_of g) (sets_of ss) (sets_of rs) e) in
-      let rest = sets_alike ss rs (All-tail (λ (x : Shapes). AreNamed E x.types) h ss s) (All-tail (λ (x : Shapes). AreNamed E x.types) g rs r) (tail_is (set_of h) (set_of g) (sets_of ss) (sets_of rs) e) in
+      let first = shapes_alike h.types g.types (All-head (λ (x : Shapes). AreNamed E x.types) h ss s) (All-head (λ (x : Shapes). AreNamed E x.types) g rs r) (first_same e) in
+      let rest = sets_alike ss rs (All-tail (λ (x : Shapes). AreNamed E x.types) h ss s) (All-tail (λ (x : Shapes). AreNamed E x.types) g rs r) (rest_same e) in
       λ i. first i ∷ rest i

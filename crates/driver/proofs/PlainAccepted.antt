@@ -1,5 +1,5 @@
 -- A plain environment that the directed rules accept keeps all rules that its text shows: names are distinct, and main's constructor is declared.
-use Rattle.std.proofs.Common.{◌≡◌, ◌≢◌, ℕ, suc, Bool, true, false, ◌||◌, if◌then◌else◌, List, [], ◌∷◌, map, length, Option, Some, None, ◌⊎◌, inl, inr, refl, sym, ap, subst, ◌∙◌, arith, eq-eqb}
+use Rattle.std.proofs.Common.{◌≡◌, ◌≢◌, ℕ, suc, Bool, true, false, ◌||◌, if◌then◌else◌, List, [], ◌∷◌, map, length, Option, Some, None, ◌⊎◌, inl, inr, refl, sym, ap, subst, ◌∙◌, arith, eq-eqb, true≢false}
 use Rattle.std.specs.Prelude.{All, AllPairs, get_or, slice_get}
 use Rattle.std.proofs.lemmas.Option.{slice_get-map, slice_get_within}
 use Rattle.std.proofs.lemmas.List.Elements.{All-head, All-tail, All-nil, All-cons}
@@ -20,7 +20,7 @@ use Rattle.calculus_rules.specs.Accepted.{env}
 use Rattle.calculus_rules.specs.Environment.{Env, FamilyDecl, family_at, with_parameters}
 use Rattle.calculus_rules.specs.Same.{same_names}
 use Rattle.pc_rules.specs.DirectedRun as run
-use Rattle.pc_rules.specs.DirectedRun.{Run, done, refused, make, ticked, noted, bind}
+use Rattle.pc_rules.specs.DirectedRun.{Run, done, refused, make, ticked, noted, bind, most_nested}
 use Rattle.calculus_rules.specs.Lookups.{kept_at, whole_block, family_of}
 use Rattle.pc_rules.specs.DirectedComparison.{Test, compare}
 use Rattle.pc_rules.specs.DirectedTyping.{Typing, infer, rule, rule_number, sorts_of, undeclared_in, levels_declared, find_family, constructor_number}
@@ -31,7 +31,7 @@ use Rattle.pc_rules.specs.Entailment.{entailed_by}
 use Rattle.pc_rules.proofs.WeakNext.{same_names_is, none_some, if_some_is}
 use Rattle.calculus_rules.proofs.Spines.{one_item}
 use Rattle.rule_laws.proofs.Runs.{bind_both, ticking_done, refused_done}
-use Rattle.rule_laws.proofs.SimpleRules.{some_none, whole_family, constructor_is}
+use Rattle.rule_laws.proofs.SimpleRules.{whole_family, constructor_is}
 use Rattle.erase_rules.proofs.Program.{gives_both, outcome_done}
 use Rattle.inductive_check.specs.Given.{ctor_of, family_of as read_family, block_of, given_of}
 use Rattle.dump_reader.specs.declared.declaration.RawCtor.{RawCtor}
@@ -47,14 +47,11 @@ use Rattle.driver.proofs.SourceCauses.{plainly}
 use Rattle.calculus_rules.proofs.Listing.{from_map}
 use Rattle.rule_laws.proofs.Environments.{name_is_new}
 
-true_is_false : {A : Type 0} → true ≡ false → A
-true_is_false e = cc
-
 other_name : (k l : Name) → same_names k l ≡ false → k ≢ l
-other_name k l h e = true_is_false (sym (eq-eqb k.0 l.0 (ap (λ (n : Name). n.0) e)) ∙ h)
+other_name k l h e = true≢false (sym (eq-eqb k.0 l.0 (ap (λ (n : Name). n.0) e)) ∙ h)
 
 neither : (a b : Bool) → (a || b) ≡ false → (a ≡ false) × (b ≡ false)
-neither true b e = true_is_false e
+neither true b e = absurd (true≢false e)
 neither false b e = (refl, e)
 
 -- ---- the constructors' names
@@ -135,7 +132,7 @@ all_passed levels cs q n i ks (d ∷ ds) main T E u v h e =
 
 not_beside : (x d : RawDecl) (ks : List Kept) (b : Bool) → same_names (block_of x).name (name_of d) ≡ b → (if b then Some (keep x) else kept_at ks (name_of d)) ≡ None →
     (name_of x ≢ name_of d) × IsNewIn ks d
-not_beside x d ks true e h = absurd (some_none h)
+not_beside x d ks true e h = absurd (none_some (sym h))
 not_beside x d ks false e h = ((λ same. other_name (block_of x).name (name_of d) e (kept_name x ∙ same)), h)
 
 decls_apart : (ks : List Kept) (ds : List RawDecl) → AreNew ks ds → All (IsNewIn ks) ds × AllPairs IsOther ds
@@ -229,17 +226,17 @@ declares ds f c h t =
     }
 
 rules_pass : (turns : ℕ) (e : RawEnv) (f : FamilyId) (c : ℕ) (E : Env) (T : Term) (u : Account) → IsPlainOf e f c → IsAcceptedWith turns e E T u →
-    (declarations_rule 0 [] (entailed_by 0 []) 2048 0 [] (map given_of e.decls) (Construct f c) (start turns)).outcome ≡ Accepts E T u
+    (declarations_rule 0 [] (entailed_by 0 []) most_nested 0 [] (map given_of e.decls) (Construct f c) (start turns)).outcome ≡ Accepts E T u
 rules_pass turns e f c E T u p a =
     sym (ap (λ d. d.outcome)
-    (ap (λ ls. environment_rule ls e.constraints None (entailed_by (length ls) e.constraints) 2048 (givens e) e.main (start turns)) p.no_level
-    ∙ ap (λ cs. environment_rule [] cs None (entailed_by 0 cs) 2048 (givens e) e.main (start turns)) p.no_constraint
-    ∙ ap (λ t. declarations_rule 0 [] (entailed_by 0 []) 2048 0 [] (givens e) t (start turns)) p.main_is)) ∙ plainly turns e E T u a
+    (ap (λ ls. environment_rule ls e.constraints None (entailed_by (length ls) e.constraints) most_nested (givens e) e.main (start turns)) p.no_level
+    ∙ ap (λ cs. environment_rule [] cs None (entailed_by 0 cs) most_nested (givens e) e.main (start turns)) p.no_constraint
+    ∙ ap (λ t. declarations_rule 0 [] (entailed_by 0 []) most_nested 0 [] (givens e) t (start turns)) p.main_is)) ∙ plainly turns e E T u a
 
 -- and main's constructor is the one of this number
 pub accepted_plain : (turns : ℕ) (e : RawEnv) (f : FamilyId) (c : ℕ) (E : Env) (T : Term) (u : Account) → IsPlainOf e f c → IsAcceptedWith turns e E T u → (a : IsAnswerable e) × (a.id ≡ f) × (a.number ≡ c)
 accepted_plain turns e f c E T u p a =
-    let r = all_passed 0 [] (entailed_by 0 []) 2048 0 [] e.decls (Construct f c) T E (start turns) u p.blocks (rules_pass turns e f c E T u p a) in
+    let r = all_passed 0 [] (entailed_by 0 []) most_nested 0 [] e.decls (Construct f c) T E (start turns) u p.blocks (rules_pass turns e f c E T u p a) in
     let answerable : IsAnswerable e = record {
       id = f;
       number = c;

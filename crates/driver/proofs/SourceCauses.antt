@@ -5,7 +5,7 @@ use Rattle.pc_terms.specs.Syntax.{Term}
 use Rattle.pc_rules.specs.declared.meter.Account.{Account}
 use Rattle.calculus_rules.specs.Environment.{Env}
 use Rattle.calculus_rules.specs.Accepted.{IsAccepted}
-use Rattle.pc_rules.specs.DirectedRun.{Run, End}
+use Rattle.pc_rules.specs.DirectedRun.{Run, End, most_nested}
 use Rattle.pc_rules.specs.DirectedDeclarations.{Checked, Outcome, Gives, Accepts, first_repeated, first_undeclared_end, declarations_rule, graph_rule, constraints_rule, levels_rule}
 use Rattle.dump_reader.specs.declared.environment.RawEnv.{RawEnv}
 use Rattle.pc_rules.specs.Entailment.{entailed_by}
@@ -27,14 +27,14 @@ no_cycle_accepts None None q go u w E T e = absurd cc
 no_cycle_accepts None (Some p) q go u w E T e = absurd cc
 no_cycle_accepts (Some o) p q go u w E T e = absurd cc
 
-accepts_plainly : (turns : ℕ) → (e : RawEnv) (c : Option (List ℕ)) (E : Env) (T : Term) (u : Account) → (rules_of e c 2048 (start turns)).outcome ≡ Accepts E T u →
-    (rules_of e None 2048 (start turns)).outcome ≡ Accepts E T u
+accepts_plainly : (turns : ℕ) → (e : RawEnv) (c : Option (List ℕ)) (E : Env) (T : Term) (u : Account) → (rules_of e c most_nested (start turns)).outcome ≡ Accepts E T u →
+    (rules_of e None most_nested (start turns)).outcome ≡ Accepts E T u
 accepts_plainly turns e None E T u h = h
 accepts_plainly turns e (Some q) E T u h =
     absurd (no_cycle_accepts (first_repeated 0 [] e.levels) (first_undeclared_end (length e.levels) 0 e.constraints) q
-    (declarations_rule (length e.levels) e.constraints (entailed_by (length e.levels) e.constraints) 2048 0 [] (givens e) e.main (start turns)) (start turns) u E T h)
+    (declarations_rule (length e.levels) e.constraints (entailed_by (length e.levels) e.constraints) most_nested 0 [] (givens e) e.main (start turns)) (start turns) u E T h)
 
-pub plainly : (turns : ℕ) → (e : RawEnv) (E : Env) (T : Term) (u : Account) → IsAcceptedWith turns e E T u → (rules_of e None 2048 (start turns)).outcome ≡ Accepts E T u
+pub plainly : (turns : ℕ) → (e : RawEnv) (E : Env) (T : Term) (u : Account) → IsAcceptedWith turns e E T u → (rules_of e None most_nested (start turns)).outcome ≡ Accepts E T u
 plainly turns e E T u a = accepts_plainly turns e a.judged.cycle E T u (ap (λ d. d.outcome) (sym a.judged.is) ∙ a.accepts)
 
 abbrev accepted_in : Outcome (Env × Term) → Env × Term → Env × Term

@@ -10,7 +10,7 @@ use Rattle.calculus_rules.specs.FirstOrder.{Shape as Member, IsFirstOrder}
 use Rattle.pc_rules.specs.DirectedRun.{Run, Done, NoUnit, bind, end_then}
 use Rattle.pc_rules.specs.DirectedEvaluation.{Evaluated, Value, Stuck, evaluation}
 use Rattle.pc_rules.specs.DirectedFirstOrder.{Searched, Found, NotFirstOrder, TooManyTypes, first_order_search}
-use Rattle.pc_rules.proofs.Following.{bind_end, bind_deep}
+use Rattle.pc_rules.proofs.Following.{bind_end, bind_deep, first_deep}
 use Rattle.rule_laws.specs.Declarations.{IsCheckedEnvironment}
 use Rattle.env_check.specs.Rules.{givens}
 use Rattle.first_order.specs.declared.shapes.Shape.{Shape}
@@ -31,7 +31,6 @@ use Rattle.driver.specs.Serve.{JobSays, RefusalSays}
 use Rattle.driver.proofs.Kept.{was_read, named_ctor}
 use Rattle.calculus_rules.proofs.Listing.{from_map}
 use Rattle.driver.proofs.Accepting.{at_place}
-use Rattle.lazy_conversion.proofs.Tracking.{first_deep}
 
 -- the first of two runs has no unit left, or passes a limit
 

@@ -7,7 +7,7 @@ use Rattle.dump_grammar.specs.Named.{NamedEnv}
 use Rattle.dump_grammar.specs.Environments.{env_of}
 use Rattle.dump_grammar.specs.Table.{VEnv}
 use Rattle.dump_grammar.specs.Judge.{Verdict, Fine, Refuse, verdict}
-use Rattle.dump_grammar.proofs.FirstRefusal.{first_refusal}
+use Rattle.dump_grammar.proofs.FirstRefusal.{first_refusal, refusal_is}
 use Rattle.dump_grammar.proofs.Law.{judged}
 use Rattle.dump_grammar.proofs.Within.{limited}
 use Rattle.dump_reader.specs.Front.{front_bytes}
@@ -59,9 +59,6 @@ fine bytes e s = limited.within (length bytes) (tokens_of bytes) s.form s.tokens
 
 pub is_spelled : (bytes : List ℕ) (e : RawEnv) → SpellsWithin bytes e → IsSpelled e
 is_spelled bytes e s = (bytes, env_of s.form, fine bytes e s, s.means)
-
-refuse-inj : (q r : ReadRefusal) → Refuse q ≡ Refuse r → q ≡ r
-refuse-inj q r e = cc
 
 fine-inj : (a b : NamedEnv) → Fine (VEnv a ∷ []) ≡ Fine (VEnv b ∷ []) → a ≡ b
 fine-inj a b e = cc
@@ -121,7 +118,7 @@ of_verify q bytes _ h = OfCheck h.0 h.1 h.2 (λ x. x)
 -- a cause that the text itself shows is the only one
 sure_is_one : {P Q : RawEnv → Type 0} (bytes : List ℕ) (a r : Refusal) → Of P bytes a → Of Q bytes r → IsSure r → a ≡ r
 sure_is_one bytes a r h (OfCheck f t c n) sure = absurd (n sure)
-sure_is_one bytes a r (OfRefusal x va ea) (OfRefusal b vb eb) sure = ea ∙ ap refusal_of (refuse-inj x b (sym va ∙ vb)) ∙ sym eb
+sure_is_one bytes a r (OfRefusal x va ea) (OfRefusal b vb eb) sure = ea ∙ ap refusal_of (refusal_is x b (sym va ∙ vb)) ∙ sym eb
 sure_is_one bytes a r (OfCheck e s c n) (OfRefusal b vb eb) sure = absurd (never_both bytes e b s vb)
 
 -- and where the text spells an environment, it is that which shows a cause

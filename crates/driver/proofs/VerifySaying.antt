@@ -2,6 +2,7 @@
 use Rattle.std.proofs.Common.{◌≡◌, ◌∙◌, ℕ, ◌-◌, List, Option, Result, Ok, Err, sym, ap, subst}
 use Rattle.std.specs.Prelude.{IfOk, IfErr, IsTrue, codes}
 use Rattle.pc_rules.specs.declared.meter.Meter.{Meter}
+use Rattle.pc_rules.specs.DirectedRun.{most_nested}
 use Rattle.cert_rules.specs.Walk.{Items}
 use Rattle.cert_text.specs.CertReading.{CertRead, Read, read_bytes}
 use Rattle.env_cert.specs.Verified.{IsVerified, Verifies, walk_of}
@@ -27,8 +28,8 @@ read_there bytes from r is h = sym (ap (read_bytes bytes) is) ∙ h
 
 -- the walk with a new meter
 module _ (turns : ℕ) (e : RawEnv) (items : Items) (m m' : Meter) (none : m.nest ≡ 0) (fresh : m.account ≡ start turns) where
-  its_walk : (cycle : Option (List ℕ)) → walk_of items e cycle (2048 - m.nest) m.account ≡ walk_along turns e items cycle
-  its_walk cycle = λ i. walk_of items e cycle (2048 - none i) (fresh i)
+  its_walk : (cycle : Option (List ℕ)) → walk_of items e cycle (most_nested - m.nest) m.account ≡ walk_along turns e items cycle
+  its_walk cycle = λ i. walk_of items e cycle (most_nested - none i) (fresh i)
 
   pub walk_passes : Verifies e items (Ok tt) m m' → WalkSays turns e items (Ok tt)
   walk_passes v = (v.cycle, v.answers.0, record { account = m'.account; at = v.answers.1 }, v.found, sym (ap (λ w. w.end) (its_walk v.cycle)) ∙ v.answers.2)

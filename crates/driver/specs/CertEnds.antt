@@ -6,6 +6,7 @@ use Rattle.calculus_rules.specs.Environment.{Env}
 use Rattle.pc_rules.specs.declared.meter.Account.{Account}
 use Rattle.pc_rules.specs.DirectedPlaces.{Gives}
 use Rattle.pc_rules.specs.Entailment.{entailed_by}
+use Rattle.pc_rules.specs.DirectedRun.{most_nested}
 use Rattle.cert_rules.specs.MakingDeclarations.{Made, make_environment}
 use Rattle.cert_rules.specs.Walk.{Items, WalkEnd, Passed, Crowded}
 use Rattle.cert_rules.specs.Writing.{wrote}
@@ -18,7 +19,7 @@ use Rattle.driver.specs.VerifyEnds.{walk_along}
 
 -- the directed rules that write, of an environment, with the units of a job, and with this cycle of the graph, if one is found; 2,048 rules may stand in one another
 abbrev pub making_with : (turns : ℕ) → RawEnv → Option (List ℕ) → Made
-making_with turns e cycle = make_environment e.levels e.constraints cycle (entailed_by (length e.levels) e.constraints) 2048 (givens e) e.main (start turns)
+making_with turns e cycle = make_environment e.levels e.constraints cycle (entailed_by (length e.levels) e.constraints) most_nested (givens e) e.main (start turns)
 
 -- they accept the environment, and these items are what they wrote; so many units are left
 pub record IsMakingOf (turns : ℕ) (e : RawEnv) (items : Items) (u : Account) : Type 0 where

@@ -1,6 +1,7 @@
 -- What the stages of `cert` say.
 use Rattle.std.specs.Prelude.{ℕ, Result, Ok, Err}
 use Rattle.pc_rules.specs.declared.meter.Account.{Account}
+use Rattle.pc_rules.specs.DirectedRun.{most_nested}
 use Rattle.cert_rules.specs.Walk.{Items}
 use Rattle.dump_reader.specs.declared.environment.RawEnv.{RawEnv}
 use Rattle.env_making.specs.Certified.{DirectedFound}
@@ -19,4 +20,4 @@ MakingSays turns (Err r) e = CheckSays turns (Err r) e
 -- the directed rules refuse the environment so; want of memory says nothing
 abbrev pub WhySays : (turns : ℕ) → RawEnv → CertRefusal → Type 0
 WhySays turns e Memory = Unit {0}
-WhySays turns e r = (u : Account) × DirectedFound e 2048 (start turns) (Err r) u
+WhySays turns e r = (u : Account) × DirectedFound e most_nested (start turns) (Err r) u

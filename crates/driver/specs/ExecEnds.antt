@@ -9,7 +9,7 @@ use Rattle.pc_rules.specs.declared.meter.Account.{Account}
 use Rattle.calculus_rules.specs.Environment.{Env}
 use Rattle.pc_rules.specs.Entailment.{test_of}
 use Rattle.calculus_rules.specs.FirstOrder.{FitsShapes, IsFirstOrder}
-use Rattle.pc_rules.specs.DirectedRun.{Done}
+use Rattle.pc_rules.specs.DirectedRun.{Done, most_nested}
 use Rattle.pc_rules.specs.DirectedPlaces.{Placed, Gives, Breaks, Spends}
 use Rattle.pc_rules.specs.DirectedFirstOrder.{Found, first_order_search}
 use Rattle.rule_laws.specs.Declarations.{IsCheckedEnvironment}
@@ -49,7 +49,7 @@ use Rattle.driver.specs.SourceSays.{ShapesSay, IsLine}
 
 -- directed erasure of main and of what it reaches, with the units that the search left
 abbrev pub erasure_of : Env → Term → Account → Placed Answer
-erasure_of E t u = erased_program E (test_of E) 2048 t u
+erasure_of E t u = erased_program E (test_of E) most_nested t u
 
 abbrev pub ErasureSays : RawEnv → Env → Term → Account → Result BoxProgram Refusal → Account → Type 0
 ErasureSays e E t u (Ok P) w = (erasure_of E t u).outcome ≡ Gives (Program P) w

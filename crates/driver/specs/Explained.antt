@@ -4,6 +4,7 @@ use Rattle.dump_reader.specs.declared.environment.RawEnv.{RawEnv}
 use Rattle.pc_rules.specs.declared.broken.Broken.{Broken}
 use Rattle.pc_rules.specs.declared.broken.Place.{Place}
 use Rattle.pc_rules.specs.declared.meter.Account.{Account}
+use Rattle.pc_rules.specs.DirectedRun.{most_nested}
 use Rattle.env_check.specs.declared.refusal.Refusal.{Refusal as Fault}
 use Rattle.env_check.specs.declared.refusal.Refusal.TheVariants as faults
 use Rattle.env_check.specs.Rules.{givens}
@@ -20,8 +21,8 @@ use Rattle.driver.specs.Texts.{SpellsWithin}
 -- this account; or they pass a limit at this place.
 pub record IsRefusedAs (turns : ℕ) (e : RawEnv) (r : Fault) : Type 0 where
   pub left : Account
-  pub answers : AnswersFound e 2048 (start turns) (Err r) left
-  pub stands : StandsAt (bare e) 2048 (givens e) e.main (start turns) r
+  pub answers : AnswersFound e most_nested (start turns) (Err r) left
+  pub stands : StandsAt (bare e) most_nested (givens e) e.main (start turns) r
 
 -- a broken rule: the line, with how it tells the place, and what explains it
 abbrev pub IsBrokenText : RawEnv → Place → Broken → List ℕ → Type 0

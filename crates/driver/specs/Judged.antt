@@ -12,6 +12,7 @@ use Rattle.pc_rules.specs.DirectedDeclarations.{Checked, Outcome, Gives, Breaks,
 use Rattle.dump_reader.specs.declared.declaration.RawDecl.{RawDecl}
 use Rattle.dump_reader.specs.declared.declaration.RawDecl.TheVariants.{Constant, Block}
 use Rattle.dump_reader.specs.declared.environment.RawEnv.{RawEnv}
+use Rattle.pc_rules.specs.DirectedRun.{most_nested}
 use Rattle.env_check.specs.Rules.{rules_of, IsFound}
 use Rattle.driver.specs.declared.refusal.Where.{Where}
 use Rattle.driver.specs.declared.refusal.Where.TheVariants as tells
@@ -24,7 +25,7 @@ start turns = record { left = turns; uses = replicate 12 0 }
 pub record IsJudged (turns : ℕ) (e : RawEnv) (d : Checked) : Type 0 where
   pub cycle : Option (List ℕ)
   pub found : IsFound e cycle
-  pub is : d ≡ rules_of e cycle 2048 (start turns)
+  pub is : d ≡ rules_of e cycle most_nested (start turns)
 
 -- the numbers of the rules that may be broken
 abbrev pub number_of : Broken → ℕ

@@ -5,6 +5,7 @@ use Rattle.pc_terms.specs.Syntax.{Term}
 use Rattle.calculus_rules.specs.Environment.{Env}
 use Rattle.pc_rules.specs.declared.meter.Account.{Account}
 use Rattle.pc_rules.specs.Entailment.{entailed_by}
+use Rattle.pc_rules.specs.DirectedRun.{most_nested}
 use Rattle.cert_rules.specs.Walk.{Items, WalkState, Walk, WalkEnd, Passed, Barred, Unpaid, Crowded}
 use Rattle.cert_rules.specs.WalkDeclarations.{walk_environment}
 use Rattle.cert_text.specs.CertReading.{CertRead, Read, WrongToken, TooGreat, read_bytes}
@@ -24,7 +25,7 @@ certificate_read bytes = read_bytes bytes (front_length bytes)
 -- the walk of an environment along a certificate, from its first item on, with the units of a job, and with this cycle of the graph, if one is found; 2,048 rules may stand in one another
 abbrev pub walk_along : (turns : ℕ) → RawEnv → Items → Option (List ℕ) → Walk (Env × Term)
 walk_along turns e items cycle =
-    walk_environment items e.levels e.constraints cycle (entailed_by (length e.levels) e.constraints) 2048 (givens e) e.main (record { account = start turns; at = 0 })
+    walk_environment items e.levels e.constraints cycle (entailed_by (length e.levels) e.constraints) most_nested (givens e) e.main (record { account = start turns; at = 0 })
 
 -- the walk is refused at this item; it has no end within the units; it passes a limit
 abbrev pub WalkShows : Walk (Env × Term) → Refusal → Type 0

@@ -15,7 +15,8 @@ use Rattle.dump_grammar.specs.Limits.{over}
 use Rattle.dump_grammar.specs.Judge.{texts, Verdict, Refuse, lexed, unread, moved, judge, verdict}
 use Rattle.dump_grammar.specs.FirstRefusal.{nesting_of, ReadState, onward, state_from, item_refusal, items_refusal, answer_refusal, end_refusal, rest_refusal, on_state, refusal_from, IsFirstRefusal, IsFirst}
 
-refusal_is : (a b : ReadRefusal) → Refuse a ≡ Refuse b → a ≡ b
+-- a verdict refuses for one cause
+pub refusal_is : (a b : ReadRefusal) → Refuse a ≡ Refuse b → a ≡ b
 refusal_is a b e = cc
 
 same_first : (a b : Spanned) (xs ys : List Spanned) → a ∷ xs ≡ b ∷ ys → a ≡ b

@@ -12,3 +12,4 @@ pub mod AcceptedTexts
 pub mod Verdicts
 pub mod CountedTexts
 pub mod NoLimit
+pub mod TextsAnywhere

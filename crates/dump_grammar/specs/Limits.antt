@@ -31,8 +31,12 @@ number_over n = unless (nat_le n 4294967295) limits.Number
 unfoldable pub add_over : ℕ → Option Limit
 add_over n = first (number_over n) (unless (nat_le n 1000) limits.LevelAdd)
 
+-- the greatest depth of a term
+abbrev pub depth_limit : ℕ
+depth_limit = 2048
+
 unfoldable pub depth_over : Named → Option Limit
-depth_over t = unless (nat_le (depth t) 2048) limits.Depth
+depth_over t = unless (nat_le (depth t) depth_limit) limits.Depth
 
 -- One more, where there are so many.
 abbrev pub one_more_over : (most : ℕ) → Limit → ℕ → Option Limit

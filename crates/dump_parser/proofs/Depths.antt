@@ -5,7 +5,7 @@ use denote.Param.Weighed.{most}
 use Rattle.dump_grammar.specs.Named as g
 use Rattle.dump_grammar.specs.Named.{Named, terms_of, branches_of, defs_of, depth, depth_terms, depth_branches, depth_defs}
 use Rattle.dump_grammar.specs.declared.refusal.Limit.TheVariants as limits
-use Rattle.dump_grammar.specs.Limits.{depth_over}
+use Rattle.dump_grammar.specs.Limits.{depth_over, depth_limit}
 use Rattle.dump_parser.specs.declared.tree.Branch.{Branch}
 use Rattle.dump_parser.specs.declared.tree.Def.{Def}
 use Rattle.dump_parser.specs.Tree.{named_branch, named_def, applied}
@@ -42,15 +42,15 @@ deepened-applied f (t ∷ ts) =
     let one : max (depth f) (depth t) + 1 ≡ suc (max (depth f) (depth t)) = omega arith in
     ap (λ d. deepened d ts) one ∙ deepened-applied (g.App f t) ts
 
-pub depth-fits : (t : Named) → depth t ≤ 2048 → depth_over t ≡ None
+pub depth-fits : (t : Named) → depth t ≤ depth_limit → depth_over t ≡ None
 unfolding depth_over
-depth-fits t h = rw (le-leb (depth t) 2048 h) refl
+depth-fits t h = rw (le-leb (depth t) depth_limit h) refl
 
-pub depth-over : (t : Named) → 2048 < depth t → depth_over t ≡ Some limits.Depth
+pub depth-over : (t : Named) → depth_limit < depth t → depth_over t ≡ Some limits.Depth
 unfolding depth_over
-depth-over t h = rw (lt-leb (depth t) 2048 h) refl
+depth-over t h = rw (lt-leb (depth t) depth_limit h) refl
 
-pub ruleset depth_limit = (depth-fits, depth-over)
+pub ruleset depth_laws = (depth-fits, depth-over)
 
 pub leaf_fits : (l : Leaf) → depth_over (leaf_named l) ≡ None
 unfolding depth_over depth

@@ -3,6 +3,7 @@ use Rattle.std.specs.Prelude.{◌≡◌, ℕ, ◌<◌, ◌≤◌, List, [], ◌�
 use Rattle.dump_grammar.specs.Terms.{cast}
 use Rattle.dump_grammar.specs.Named as g
 use Rattle.dump_grammar.specs.Named.{Named, terms_of, branches_of, defs_of, depth}
+use Rattle.dump_grammar.specs.Limits.{depth_limit}
 use Rattle.dump_parser.specs.declared.tree.LevelPart.{LevelPart}
 use Rattle.dump_parser.specs.declared.tree.SortTree.{SortTree}
 use Rattle.dump_parser.specs.declared.tree.SortTree.TheVariants as sorts
@@ -56,7 +57,7 @@ IsIndexed _ = Unit {0}
 -- What a tree keeps of its node: its depth, within the limit, and that its index was tested.
 pub record IsMeasured (d : ℕ) (n : Node) : Type 0 where
   pub depth_is : d ≡ depth (named n)
-  pub within : d ≤ 2048
+  pub within : d ≤ depth_limit
   pub indexed : IsIndexed n
 
 -- The values that a match leaves before the bracket that closes it, the newest first.

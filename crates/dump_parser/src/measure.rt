@@ -1,7 +1,8 @@
 //! The depth of a term, from the depths of its parts, and the making of a term within the limit of depth.
 
-ghost use Rattle.std.specs.Prelude.{◌≡◌, ◌≤◌, map, [], ◌∷◌};
+ghost use Rattle.std.specs.Prelude.{◌+◌, ◌≡◌, ◌≤◌, map, [], ◌∷◌};
 ghost use Rattle.dump_grammar.specs.Table.{IEnd, VTerm};
+ghost use Rattle.dump_grammar.specs.Limits.{depth_limit};
 ghost use Rattle.dump_parser.specs.Reading.{Reads};
 ghost use Rattle.dump_grammar.specs.Named.{Named, terms_of, branches_of, defs_of, depth, depth_terms, depth_branches, depth_defs};
 ghost use Rattle.dump_parser.specs.Tree.{named, named_branch, named_def, applied, IsIndexed};
@@ -17,12 +18,12 @@ use std::alloc::Global;
 use std::rc::Rc;
 
 /// The greatest depth of a term.
-const MAX_DEPTH: usize = 2048;
+const DEPTH_LIMIT: usize = 2048;
 
 #[tactic(auto, using(crate::proofs::Depths::deepest_laws, std::proofs::lemmas::Grind::common_steps))]
 fn deepest(terms: &[Tree]) -> usize
     ensures is { result ≡ depth_terms (terms_of terms.now) }
-    ensures within { result ≤ 2048 }
+    ensures within { result ≤ depth_limit }
 {
     let mut most = 0;
     for t in terms {
@@ -34,7 +35,7 @@ fn deepest(terms: &[Tree]) -> usize
 #[tactic(auto, using(crate::proofs::Depths::deepest_laws, std::proofs::lemmas::Grind::common_steps))]
 fn deepest_branch(branches: &[Branch]) -> usize
     ensures is { result ≡ depth_branches (branches_of (map named_branch branches.now)) }
-    ensures within { result ≤ 2048 }
+    ensures within { result ≤ depth_limit }
 {
     let mut most = 0;
     for b in branches {
@@ -46,7 +47,7 @@ fn deepest_branch(branches: &[Branch]) -> usize
 #[tactic(auto, using(crate::proofs::Depths::deepest_laws, std::proofs::lemmas::Grind::common_steps))]
 fn deepest_def(defs: &[Def]) -> usize
     ensures is { result ≡ depth_defs (defs_of (map named_def defs.now)) }
-    ensures within { result ≤ 2048 }
+    ensures within { result ≤ depth_limit }
 {
     let mut most = 0;
     for d in defs {
@@ -57,7 +58,7 @@ fn deepest_def(defs: &[Def]) -> usize
 
 /// The depth of a term of the depth `first`, applied to arguments.
 fn applied_depth(first: usize, more: &[Tree]) -> usize
-    requires { first ≤ 2049 }
+    requires { first ≤ depth_limit + 1 }
     ensures is { (f : Named) → depth f ≡ first → result ≡ depth (applied f more.now) }
 {
     let mut deep = first;
@@ -97,13 +98,13 @@ impl<'a> Node<'a> {
 }
 
 /// The term of a node. `Limit` of the depth, at the bracket that closes it, where its depth is over 2,048.
-#[tactic(auto, using(crate::proofs::Depths::depth_limit))]
+#[tactic(auto, using(crate::proofs::Depths::depth_laws))]
 pub(crate) fn make<'a>(alloc: Global, node: Node<'a>, close: usize) -> Result<Tree<'a>, ReadRefusal>
     requires indexed { IsIndexed node }
     ensures made { Makes result (named node.entry) close }
 {
     let nesting = node.depth();
-    if nesting > MAX_DEPTH {
+    if nesting > DEPTH_LIMIT {
         return Err(ReadRefusal::Limit {
             which: Limit::Depth,
             offset: close,

@@ -2,6 +2,7 @@
 
 ghost use Rattle.std.specs.Prelude.{◌≡◌, ◌≤◌, IfSome};
 ghost use Rattle.dump_grammar.specs.Named.{depth};
+ghost use Rattle.dump_grammar.specs.Limits.{depth_limit};
 ghost use Rattle.dump_parser.specs.Tree.{named, IsIndexed};
 
 use std::marker::Model;
@@ -115,7 +116,7 @@ impl<'a> Tree<'a> {
     /// The node of the term, as it stands in the text. It takes no memory.
     pub fn node(&self) -> &Node<'a>
         ensures is { named result.now ≡ self.now }
-        ensures within { depth self.now ≤ 2048 }
+        ensures within { depth self.now ≤ depth_limit }
         ensures indexed { IsIndexed result.now }
     {
         &self.node
@@ -137,7 +138,7 @@ impl<'a> Tree<'a> {
     /// The depth of the term. It takes no memory.
     pub fn depth(&self) -> usize
         ensures is { result ≡ depth self.now }
-        ensures within { depth self.now ≤ 2048 }
+        ensures within { depth self.now ≤ depth_limit }
     {
         self.nesting
     }

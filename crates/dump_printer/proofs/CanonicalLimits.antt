@@ -11,7 +11,7 @@ use Rattle.dump_grammar.specs.Keywords.{spelling}
 use Rattle.dump_grammar.specs.declared.keyword.Keyword.TheVariants as words
 use Rattle.dump_grammar.specs.declared.refusal.Limit.{Limit}
 use Rattle.dump_grammar.specs.declared.refusal.Limit.TheVariants as limits
-use Rattle.dump_grammar.specs.Limits.{unless, first, number_over, add_over, depth_over}
+use Rattle.dump_grammar.specs.Limits.{unless, first, number_over, add_over, depth_over, depth_limit}
 use Rattle.dump_grammar.specs.Named.{Named, Rel, Sort, Prod, Lambda, LetIn, App, Const, Ind, Construct, Case, Fix, NamedTerms, NoTerm, OneTerm, NamedBranches, NoBranch, OneBranch, NamedDefs, NoDef, OneDef, terms_of, branches_of, defs_of, depth, depth_terms, depth_branches, depth_defs}
 use Rattle.dump_grammar.specs.Sorts.{PartForm, SortForm, PropForm, SetForm, TypeForm, sort_meaning, part_meaning}
 use Rattle.dump_grammar.specs.Terms.{Form, FRel, FSort, FProd, FLambda, FLetIn, FApp, FConst, FInd, FConstruct, FCase, FFix, FCast, Forms, NoForm, OneForm, BranchForms, NoBranchForm, BranchForm, Definitions, NoDefinition, Definition, meaning, meanings, branch_meanings, definition_meanings, applied}
@@ -25,17 +25,13 @@ use Rattle.dump_printer.proofs.CanonicalTokens.{SmallParts, small-parts}
 use Rattle.dump_printer.proofs.Normal.{normal, normal_terms, normal_branches, normal_defs, canon-meaning}
 use Rattle.dump_printer.proofs.Good.{AreGood, good-length}
 use Rattle.dump_printer.proofs.Fitting.{rest-over}
+use Rattle.dump_printer.proofs.Heights.{deepest-le}
 use Rattle.dump_grammar.proofs.NoLimit.{none_both, test_holds}
 
 pub join : (a b : Option Limit) → a ≡ None → b ≡ None → first a b ≡ None
 join a b e f = ap (λ x. first x b) e ∙ f
 
 -- ---- tokens
-
-deepest-le : (d : ℕ) (ts : List Text) → d ≤ deepest d ts
-unfolding deepest
-deepest-le d [] = omega arith
-deepest-le d (t ∷ ts) = omega arith
 
 pub tokens-within : (d : ℕ) (ts : List Text) → AreGood ts → deepest d ts ≤ 1000 → tokens_over d ts ≡ None
 unfolding tokens_over deepest
@@ -49,9 +45,9 @@ tokens-within d (Stray ∷ ts) g h = elim g.0 [ ]
 
 -- ---- depth
 
-shallow : (t : Named) → depth_over t ≡ None → depth t ≤ 2048
+shallow : (t : Named) → depth_over t ≡ None → depth t ≤ depth_limit
 unfolding depth_over
-shallow t e = leb-true (depth t) 2048 (test_holds (nat_le (depth t) 2048) limits.Depth e)
+shallow t e = leb-true (depth t) depth_limit (test_holds (nat_le (depth t) depth_limit) limits.Depth e)
 
 module _ (ls : List (List ℕ)) where
   mutual
@@ -84,7 +80,7 @@ module _ (ls : List (List ℕ)) where
 
 lambda-depth : (T t : Named) → depth_over (App (Lambda T (Rel 0)) t) ≡ None → depth_over (Lambda T (Rel 0)) ≡ None
 unfolding depth depth_over
-lambda-depth T t e = (let k = shallow (App (Lambda T (Rel 0)) t) e in ap (λ b. unless b limits.Depth) (le-leb (depth (Lambda T (Rel 0))) 2048 (omega arith)))
+lambda-depth T t e = (let k = shallow (App (Lambda T (Rel 0)) t) e in ap (λ b. unless b limits.Depth) (le-leb (depth (Lambda T (Rel 0))) depth_limit (omega arith)))
 
 no-args : (t : Named) → applied t NoForm ≡ t
 unfolding meaning
@@ -175,7 +171,7 @@ module _ (ls : List (List ℕ)) where
     depth-alone f h o =
         let m = canon-meaning ls ns set f h NoForm in
         let e : depth (meaning (canon ls f NoForm)) ≡ depth (meaning f) = ap depth (m ∙ no-args (normal ls (meaning f))) ∙ depth-normal ls (meaning f) in
-        ap (λ d. unless (nat_le d 2048) limits.Depth) e ∙ form-depth f o
+        ap (λ d. unless (nat_le d depth_limit) limits.Depth) e ∙ form-depth f o
 
     -- The form by itself; and before arguments that are canonical.
     abbrev Over : Form → Type 0

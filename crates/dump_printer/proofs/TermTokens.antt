@@ -16,6 +16,7 @@ use Rattle.pc_terms.specs.declared.term.Node.TheVariants.{Rel, Sort, Prod, Lambd
 use Rattle.dump_printer.specs.CanonicalTerms.{numeral, anonymous_names, each}
 use Rattle.dump_printer.specs.Cut.{cut, each_term, each_branch, each_definition, dots}
 use Rattle.dump_printer.specs.TermLists.{family_id, arm, definition}
+use Rattle.pc_terms.proofs.Depths.{body_within, term_within}
 
 -- ---- lists of terms
 
@@ -90,16 +91,6 @@ module _ (ns ls : List (List ℕ)) where
 
 -- ---- the members of a list are no deeper than the list
 
-pub deep-term : (xs : List s.Term) (i : ℕ) (x : s.Term) → i < length xs → depth (get_or xs i x) ≤ depth_trees (terms_of xs)
-deep-term [] i x h = absurd (omega arith)
-deep-term (y ∷ xs) zero x h = omega arith
-deep-term (y ∷ xs) (suc i) x h = omega (arith, deep-term xs i x (omega arith))
-
-pub deep-arm : (bs : List Branch) (i : ℕ) (b : Branch) → i < length bs → depth (get_or bs i b).body ≤ depth_trees (arms_of bs)
-deep-arm [] i b h = absurd (omega arith)
-deep-arm (c ∷ bs) zero b h = omega arith
-deep-arm (c ∷ bs) (suc i) b h = omega (arith, deep-arm bs i b (omega arith))
-
 deep-definition : (m : ℕ) (ds : List Def) (i : ℕ) (d : Def) → i < length ds → max (depth (get_or ds i d).ty) (depth (get_or ds i d).body) ≤ max (depth_trees (types_of ds)) (depth_trees (bodies_of m ds))
 deep-definition m [] i d h = absurd (omega arith)
 deep-definition m (e ∷ ds) zero d h = omega arith
@@ -109,10 +100,10 @@ pub deep-def : (ds : List Def) (i : ℕ) (d : Def) → i < length ds → max (de
 deep-def ds i d h = deep-definition (length ds) ds i d h
 
 pub deep-term-at : (xs ys : List s.Term) (i : ℕ) (x : s.Term) → xs ≡ ys → x ≡ get_or xs i x → i < length xs → depth x ≤ depth_trees (terms_of ys)
-deep-term-at xs ys i x e is h = subst (λ zs. depth x ≤ depth_trees (terms_of zs)) e (subst (λ y. depth y ≤ depth_trees (terms_of xs)) (sym is) (deep-term xs i x h))
+deep-term-at xs ys i x e is h = subst (λ zs. depth x ≤ depth_trees (terms_of zs)) e (subst (λ y. depth y ≤ depth_trees (terms_of xs)) (sym is) (term_within xs i x h))
 
 pub deep-arm-at : (xs ys : List Branch) (i : ℕ) (x : Branch) → xs ≡ ys → x ≡ get_or xs i x → i < length xs → depth x.body ≤ depth_trees (arms_of ys)
-deep-arm-at xs ys i x e is h = subst (λ zs. depth x.body ≤ depth_trees (arms_of zs)) e (subst (λ (y : Branch). depth y.body ≤ depth_trees (arms_of xs)) (sym is) (deep-arm xs i x h))
+deep-arm-at xs ys i x e is h = subst (λ zs. depth x.body ≤ depth_trees (arms_of zs)) e (subst (λ (y : Branch). depth y.body ≤ depth_trees (arms_of xs)) (sym is) (body_within xs i x h))
 
 pub deep-def-at : (xs ys : List Def) (i : ℕ) (x : Def) → xs ≡ ys → x ≡ get_or xs i x → i < length xs → max (depth x.ty) (depth x.body) ≤ depth_defs ys
 deep-def-at xs ys i x e is h = subst (λ zs. max (depth x.ty) (depth x.body) ≤ depth_defs zs) e (subst (λ (y : Def). max (depth y.ty) (depth y.body) ≤ depth_defs xs) (sym is) (deep-def xs i x h))

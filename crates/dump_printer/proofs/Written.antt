@@ -11,11 +11,12 @@ use Rattle.dump_printer.specs.Writing.{Start, counted, IsAhead, IsOn}
 use Rattle.dump_printer.specs.declared.writing.Progress.{Progress}
 use Rattle.dump_printer.proofs.Laid.{laid-open, laid-close, laid-atom}
 
-appends-again : (a b c : Option (List ℕ)) (v w : List ℕ) → Appends a b v → Appends b c w → Appends a c (v ++ w)
-appends-again None b c v w p q = tt
-appends-again (Some x) None c v w p q = absurd p
-appends-again (Some x) (Some y) None v w p q = absurd q
-appends-again (Some x) (Some y) (Some z) v w p q = q ∙ ap (λ (u : List ℕ). u ++ w) p ∙ append_assoc x v w
+-- one part, and then another
+pub appends_both : (a b c : Option (List ℕ)) (v w : List ℕ) → Appends a b v → Appends b c w → Appends a c (v ++ w)
+appends_both None b c v w p q = tt
+appends_both (Some x) None c v w p q = absurd p
+appends_both (Some x) (Some y) None v w p q = absurd q
+appends_both (Some x) (Some y) (Some z) v w p q = q ∙ ap (λ (u : List ℕ). u ++ w) p ∙ append_assoc x v w
 
 count-again : (v w : List ℕ) (m n : ℕ) → m ≡ counted v → n ≡ min (m + length w) (2 ^ 64 - 1) → n ≡ counted (v ++ w)
 count-again v w m n p q = omega (arith, length-append v w)
@@ -27,7 +28,7 @@ went s t t' f f' p p' w rest out tells later going going' count h = record {
   gone = h.gone ++ w;
   left = rest;
   parts = h.parts ∙ ap (λ (u : List ℕ). h.gone ++ u) (h.going going) ∙ sym (append_assoc h.gone w rest);
-  out = appends-again _ _ _ h.gone w h.out out;
+  out = appends_both _ _ _ h.gone w h.out out;
   count = count-again h.gone w p.written p'.written h.count count;
   tells = tells-again _ _ _ h.tells tells;
   later = omega (arith, h.later);
@@ -46,7 +47,7 @@ failed s t t' f f' p p' w rest n within out tells later rose going failed' count
       parts =
           h.parts ∙ ap (λ (u : List ℕ). h.gone ++ u) (h.going going ∙ ap (λ (u : List ℕ). u ++ rest) (sym (take-append-drop n w)) ∙ append_assoc (take n w) (drop n w) rest)
           ∙ sym (append_assoc h.gone (take n w) (drop n w ++ rest));
-      out = appends-again _ _ _ h.gone (take n w) h.out out;
+      out = appends_both _ _ _ h.gone (take n w) h.out out;
       count = count-again h.gone (take n w) p.written p'.written h.count (omega (arith, size));
       tells = tells-again _ _ _ h.tells tells;
       later = omega (arith, h.later);

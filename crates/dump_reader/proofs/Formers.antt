@@ -2,6 +2,7 @@
 use Rattle.std.proofs.Common.{◌≡◌, ℕ, ◌<◌, ◌≤◌, ◌^◌, List, [], ◌∷◌, map, length, Result, IfOk, refl, sym, ap, subst, ◌∙◌, arith}
 use Rattle.std.proofs.lemmas.List.{length-map}
 use Rattle.std.proofs.lemmas.Result.{IfOk-weaker}
+use Rattle.dump_grammar.specs.Limits.{depth_limit}
 use Rattle.trees.specs.Tree as trees
 use Rattle.trees.specs.Measures.{above, above_trees, IsWithin}
 use Rattle.trees.specs.Measures as m
@@ -39,7 +40,7 @@ pub term-result : {t : Named} {old new : Tables} {x : terms.Term} → IsTerm t o
 term-result {t} {old} {new} {x} p r h = IfOk-weaker r (λ y. y ≡ x) (IsTerm t old new) (λ y e. as-term e p) h
 
 -- a term has the depth of its tree, so it is within the limits where the tree is
-pub term-within : {t : Named} {old new : Tables} {x : terms.Term} → IsTerm t old new x → depth t ≤ 2048 → IsWithin x
+pub term-within : {t : Named} {old new : Tables} {x : terms.Term} → IsTerm t old new x → depth t ≤ depth_limit → IsWithin x
 term-within {t} {old} {new} {x} p h =
     let same : m.depth x ≡ depth t = ap (λ (z : terms.Term). m.depth z) (p.numbers.is_value [] []) ∙ depth-numbered _ _ t in
     (omega arith, p.small)

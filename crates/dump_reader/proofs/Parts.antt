@@ -3,6 +3,7 @@ use Rattle.std.proofs.Common.{◌≡◌, ℕ, zero, suc, ◌+◌, ◌<◌, ◌�
 use Rattle.std.proofs.lemmas.List.{take_more}
 use Rattle.dump_grammar.specs.Terms.{cast}
 use Rattle.dump_grammar.specs.Named.{Named, Rel, Prod, Lambda, LetIn, App, Case, Fix, terms_of, branches_of, defs_of, depth, depth_terms, depth_branches, depth_defs}
+use Rattle.dump_grammar.specs.Limits.{depth_limit}
 use Rattle.dump_parser.specs.declared.tree.Branch.{Branch}
 use Rattle.dump_parser.specs.declared.tree.Def.{Def}
 use Rattle.dump_parser.specs.declared.tree.Node.{Node}
@@ -69,7 +70,7 @@ unfolding depth
 cast-parts t T = (omega arith, omega arith)
 
 -- the type, with its function
-pub cast-function : (t T : Named) → depth (cast t T) ≤ 2048 → depth (Lambda T (Rel 0)) ≤ 2048
+pub cast-function : (t T : Named) → depth (cast t T) ≤ depth_limit → depth (Lambda T (Rel 0)) ≤ depth_limit
 unfolding depth
 cast-function t T h = omega arith
 

@@ -2,6 +2,7 @@
 ghost use Rattle.std.specs.Prelude.{◌≡◌, ◌≤◌, IfOk, IfErr};
 ghost use Rattle.dump_grammar.specs.declared.refusal.ReadRefusal.TheVariants.{Memory};
 ghost use Rattle.dump_grammar.specs.Named.{depth};
+ghost use Rattle.dump_grammar.specs.Limits.{depth_limit};
 ghost use Rattle.dump_parser.specs.Tree.{named_match, named as named_node, IsIndexed};
 ghost use Rattle.dump_parser.specs.declared.tree.Node.TheVariants as nodes;
 ghost use Rattle.dump_reader.specs.Made.{IsTerm, AreTerms, AreBranches, AreDefs};
@@ -70,7 +71,7 @@ fn let_in(
     ty: &Tree,
     body: &Tree,
 ) -> Result<Term, ReadRefusal>
-    requires within { depth (named_node (nodes.LetIn value.now ty.now body.now)) ≤ 2048 }
+    requires within { depth (named_node (nodes.LetIn value.now ty.now body.now)) ≤ depth_limit }
     ensures made { IfOk result (IsTerm (named_node (nodes.LetIn value.now ty.now body.now)) tables.old tables.new) }
     ensures only_memory { IfErr result (λ e. e ≡ Memory) }
 {
@@ -89,7 +90,7 @@ fn fixpoint(
     defs: &Vec<tree::Def>,
     index: u32,
 ) -> Result<Term, ReadRefusal>
-    requires within { depth (named_node (nodes.Fix defs.now index)) ≤ 2048 }
+    requires within { depth (named_node (nodes.Fix defs.now index)) ≤ depth_limit }
     requires indexed { IsIndexed (nodes.Fix defs.now index) }
     ensures made { IfOk result (IsTerm (named_node (nodes.Fix defs.now index)) tables.old tables.new) }
     ensures only_memory { IfErr result (λ e. e ≡ Memory) }
@@ -108,7 +109,7 @@ fn run(
     first: &Tree,
     more: &Vec<Tree>,
 ) -> Result<Term, ReadRefusal>
-    requires within { depth (named_node (nodes.App function.now first.now more.now)) ≤ 2048 }
+    requires within { depth (named_node (nodes.App function.now first.now more.now)) ≤ depth_limit }
     ensures made { IfOk result (IsTerm (named_node (nodes.App function.now first.now more.now)) tables.old tables.new) }
     ensures only_memory { IfErr result (λ e. e ≡ Memory) }
 {
@@ -125,7 +126,7 @@ fn run(
 /// A cast: a function that gives back its argument, applied. Its type counts before its term.
 #[cycle(term)]
 fn cast(alloc: Global, tables: &mut Tables, subject: &Tree, ty: &Tree) -> Result<Term, ReadRefusal>
-    requires within { depth (named_node (nodes.Cast subject.now ty.now)) ≤ 2048 }
+    requires within { depth (named_node (nodes.Cast subject.now ty.now)) ≤ depth_limit }
     ensures made { IfOk result (IsTerm (named_node (nodes.Cast subject.now ty.now)) tables.old tables.new) }
     ensures only_memory { IfErr result (λ e. e ≡ Memory) }
 {
@@ -140,7 +141,7 @@ fn cast(alloc: Global, tables: &mut Tables, subject: &Tree, ty: &Tree) -> Result
 /// A match.
 #[cycle(term)]
 fn case(alloc: Global, tables: &mut Tables, m: &tree::Match) -> Result<Term, ReadRefusal>
-    requires within { depth (named_match m.now) ≤ 2048 }
+    requires within { depth (named_match m.now) ≤ depth_limit }
     ensures made { IfOk result (IsTerm (named_match m.now) tables.old tables.new) }
     ensures only_memory { IfErr result (λ e. e ≡ Memory) }
 {

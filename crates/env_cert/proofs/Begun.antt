@@ -7,7 +7,8 @@ use Rattle.dump_reader.specs.declared.environment.RawEnv.{RawEnv}
 use Rattle.calculus_rules.specs.Environment.{Env}
 use Rattle.pc_rules.specs.declared.stop.Stop.TheVariants as stops
 use Rattle.pc_rules.specs.DirectedDeclarations.{first_repeated, first_undeclared_end}
-use Rattle.rule_laws.proofs.SimpleRules.{some_none}
+use Rattle.pc_rules.specs.DirectedRun.{most_nested}
+use Rattle.pc_rules.proofs.WeakNext.{none_some}
 use Rattle.env_check.specs.declared.refusal.BareRefusal.{BareRefusal}
 use Rattle.env_check.specs.declared.refusal.BareRefusal.TheVariants as refusals
 use Rattle.env_check.specs.Places.{bare}
@@ -29,7 +30,7 @@ unless_some : {A : Type 0} (o : Option A) (a : A) (go : Walk (Env × Term)) (s :
 unless_some o a go s e = ap (λ x. walk_unless x go s) e
 
 module _ (raw : RawEnv) where
-  pub along_found : (cert : Items) (r : Result (Env × Term) WalkHalt) (old new : Trail) → WalksFound raw cert (2048 - old.meter.nest) r old new → WalksAlong raw cert r old new
+  pub along_found : (cert : Items) (r : Result (Env × Term) WalkHalt) (old new : Trail) → WalksFound raw cert (most_nested - old.meter.nest) r old new → WalksAlong raw cert r old new
   along_found cert (Ok p) old new h = h
   along_found cert (Err (walks.Stop stops.Spent)) old new h = h
   along_found cert (Err (walks.Stop stops.TooDeep)) old new h = h
@@ -38,11 +39,11 @@ module _ (raw : RawEnv) where
 
   -- refused before the declarations
   refused : (cert : Items) (cycle : Option (List ℕ)) (i : ℕ) (t : Trail) → t.at ≡ i → IsFound raw cycle →
-      walk_from cert raw cycle (2048 - t.meter.nest) (stand t) ≡ bar_here (stand t) → WalksAlong raw cert (Err (walks.Barred i)) t t
+      walk_from cert raw cycle (most_nested - t.meter.nest) (stand t) ≡ bar_here (stand t) → WalksAlong raw cert (Err (walks.Barred i)) t t
   refused cert cycle i t at found e = record {
     cycle = cycle;
     found = found;
-    retraces = subst (λ j. Retraces (walk_from cert raw cycle (2048 - t.meter.nest) (stand t)) (Err (walks.Barred j)) t t) at
+    retraces = subst (λ j. Retraces (walk_from cert raw cycle (most_nested - t.meter.nest) (stand t)) (Err (walks.Barred j)) t t) at
         (subst (λ w. Retraces w (Err (walks.Barred t.at)) t t) (sym e) (retraces_bar t.at t));
   }
 
@@ -50,7 +51,7 @@ module _ (raw : RawEnv) where
 
   level_barred : (i : ℕ) (a : ℕ × Level) → first_repeated 0 [] raw.levels ≡ Some a → HaltsFirst raw i (walks.Barred i)
   level_barred i a there cert t at =
-      refused cert None i t at (λ once. absurd (some_none (sym there ∙ once))) (unless_some (first_repeated 0 [] raw.levels) a _ (stand t) there)
+      refused cert None i t at (λ once. absurd (none_some (sym once ∙ there))) (unless_some (first_repeated 0 [] raw.levels) a _ (stand t) there)
 
   levels_refused : (i : ℕ) (e : BareRefusal) → Refuses (first_repeated 0 [] raw.levels) level_refusal e → HaltsFirst raw i (first_halt i e)
   levels_refused i (refusals.Broken p b) h = level_barred i h.0 h.1
@@ -61,7 +62,7 @@ module _ (raw : RawEnv) where
 
     end_barred : (i : ℕ) (a : ℕ × Level) → first_undeclared_end (length raw.levels) 0 raw.constraints ≡ Some a → HaltsFirst raw i (walks.Barred i)
     end_barred i a there cert t at =
-        refused cert None i t at (λ _ declared. absurd (some_none (sym there ∙ declared)))
+        refused cert None i t at (λ _ declared. absurd (none_some (sym declared ∙ there)))
         (unless_none (first_repeated 0 [] raw.levels) _ (stand t) once ∙ unless_some (first_undeclared_end (length raw.levels) 0 raw.constraints) a _ (stand t) there)
 
     constraints_refused : (i : ℕ) (e : BareRefusal) → Refuses (first_undeclared_end (length raw.levels) 0 raw.constraints) end_refusal e → HaltsFirst raw i (first_halt i e)

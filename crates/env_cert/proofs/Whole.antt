@@ -9,6 +9,7 @@ use Rattle.pc_rules.specs.declared.meter.Meter.{Meter}
 use Rattle.pc_rules.specs.declared.stop.Stop.TheVariants as stops
 use Rattle.pc_rules.specs.Entailment.{entailed_by, test_of}
 use Rattle.pc_rules.proofs.Entailing.{entailed_decides}
+use Rattle.pc_rules.specs.DirectedRun.{most_nested}
 use Rattle.rule_laws.specs.Declarations.{AllGivenFormed, IsCheckedEnvironment}
 use Rattle.env_check.specs.Places.{bare}
 use Rattle.env_check.specs.Beginning.{HasSoundLevels}
@@ -39,7 +40,7 @@ module _ (cert : Items) (E : Env) (T : Term) (t : Trail) where
 
 module _ (raw : RawEnv) (sound : HasSoundLevels raw) (cert : Items) (t0 : Trail) where
   abbrev n : ℕ
-  n = 2048 - t0.meter.nest
+  n = most_nested - t0.meter.nest
 
   -- what answers for the declarations and main answers for the whole
   pub whole_found : (r : Result (Env × Term) WalkHalt) (t : Trail) → Retraces (declarations_walk cert n (bare raw) (givens raw) raw.main (stand t0)) r t0 t → WalksFound raw cert n r t0 t
@@ -67,13 +68,13 @@ module _ (raw : RawEnv) (sound : HasSoundLevels raw) (cert : Items) (t0 : Trail)
   whole_well_formed fs fm (Err h) t q = tt
 
 -- the same over what the calls have found: so many rules may stand in one another, the environment that keeps nothing, and the declarations
-module _ (raw : RawEnv) (sound : HasSoundLevels raw) (cert : Items) (t0 : Trail) (room : ℕ) (E : Env) (xs : List RawDecl) (er : room ≡ 2048 - t0.meter.nest) (eE : E ≡ bare raw)
+module _ (raw : RawEnv) (sound : HasSoundLevels raw) (cert : Items) (t0 : Trail) (room : ℕ) (E : Env) (xs : List RawDecl) (er : room ≡ most_nested - t0.meter.nest) (eE : E ≡ bare raw)
     (ex : xs ≡ raw.decls) where
   abbrev found_walk : WalkState → Walk (Env × Term)
   found_walk s = declarations_walk cert room E (map given_of xs) raw.main s
 
   from_bare : (r : Result (Env × Term) WalkHalt) (t : Trail) → Retraces (found_walk (stand t0)) r t0 t →
-      Retraces (declarations_walk cert (2048 - t0.meter.nest) (bare raw) (givens raw) raw.main (stand t0)) r t0 t
+      Retraces (declarations_walk cert (most_nested - t0.meter.nest) (bare raw) (givens raw) raw.main (stand t0)) r t0 t
   from_bare r t p =
       subst (λ m. Retraces (declarations_walk cert m (bare raw) (givens raw) raw.main (stand t0)) r t0 t) er
       (subst (λ X. Retraces (declarations_walk cert room X (givens raw) raw.main (stand t0)) r t0 t) eE
@@ -112,12 +113,12 @@ module _ (raw : RawEnv) (cert : Items) (t0 t1 : Trail) (m0 m1 : Meter) (account 
   begins : stand t0 ≡ start m0.account
   begins = λ i. record { account = account i; at = at i }
 
-  answers : (cycle : Option (List ℕ)) (r : Result (Env × Term) WalkHalt) → WalkAnswers (walk_from cert raw cycle (2048 - t0.meter.nest) (stand t0)) r (stand t1) →
-      WalkAnswers (walk_of cert raw cycle (2048 - m0.nest) m0.account) r (record { account = m1.account; at = t1.at })
+  answers : (cycle : Option (List ℕ)) (r : Result (Env × Term) WalkHalt) → WalkAnswers (walk_from cert raw cycle (most_nested - t0.meter.nest) (stand t0)) r (stand t1) →
+      WalkAnswers (walk_of cert raw cycle (most_nested - m0.nest) m0.account) r (record { account = m1.account; at = t1.at })
   answers cycle r a =
-      let b = subst (λ n. WalkAnswers (walk_from cert raw cycle (2048 - n) (stand t0)) r (stand t1)) nest a in
-      let c = subst (λ s. WalkAnswers (walk_from cert raw cycle (2048 - m0.nest) s) r (stand t1)) begins b in
-      subst (λ u. WalkAnswers (walk_of cert raw cycle (2048 - m0.nest) m0.account) r (record { account = u; at = t1.at })) end c
+      let b = subst (λ n. WalkAnswers (walk_from cert raw cycle (most_nested - n) (stand t0)) r (stand t1)) nest a in
+      let c = subst (λ s. WalkAnswers (walk_from cert raw cycle (most_nested - m0.nest) s) r (stand t1)) begins b in
+      subst (λ u. WalkAnswers (walk_of cert raw cycle (most_nested - m0.nest) m0.account) r (record { account = u; at = t1.at })) end c
 
   pub verifies : (r : Result (Env × Term) WalkHalt) → WalksAlong raw cert r t0 t1 → Verifies raw cert (verified r) m0 m1
   verifies (Ok p) h = record { cycle = h.cycle; found = h.found; answers = (p, t1.at, answers h.cycle (Ok p) h.retraces.answer) }

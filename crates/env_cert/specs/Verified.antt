@@ -8,6 +8,7 @@ use Rattle.pc_rules.specs.declared.meter.Account.{Account}
 use Rattle.pc_rules.specs.declared.meter.Meter.{Meter}
 use Rattle.pc_rules.specs.declared.stop.Stop.TheVariants as stops
 use Rattle.pc_rules.specs.Entailment.{entailed_by}
+use Rattle.pc_rules.specs.DirectedRun.{most_nested}
 use Rattle.rule_laws.specs.Declarations.{IsCheckedEnvironment}
 use Rattle.env_check.specs.Rules.{givens, IsFound}
 use Rattle.cert_rules.specs.Walk.{Items, WalkState, Walk, Passed, Barred, Unpaid}
@@ -45,7 +46,7 @@ pub record VerifiesFound (raw : RawEnv) (cert : Items) (n : ℕ) (u : Account) (
 -- the answer of a call that begins and ends with these meters; where there is no memory nothing need be found
 abbrev pub Verifies : RawEnv → Items → Result (Unit {0}) VerifyRefusal → Meter → Meter → Type 0
 Verifies raw cert (Err Memory) old new = Unit {0}
-Verifies raw cert r old new = VerifiesFound raw cert (2048 - old.nest) old.account r new.account
+Verifies raw cert r old new = VerifiesFound raw cert (most_nested - old.nest) old.account r new.account
 
 -- some environment with the levels, constraints and declarations that are read is well formed, and main has a type there
 abbrev pub IsVerified : RawEnv → Type 0
@@ -60,7 +61,7 @@ pub record WalksFound (raw : RawEnv) (cert : Items) (n : ℕ) (r : Result (Env �
 
 abbrev pub WalksAlong : RawEnv → Items → Result (Env × Term) WalkHalt → Trail → Trail → Type 0
 WalksAlong raw cert (Err (walks.Stop stops.Memory)) old new = Unit {0}
-WalksAlong raw cert r old new = WalksFound raw cert (2048 - old.meter.nest) r old new
+WalksAlong raw cert r old new = WalksFound raw cert (most_nested - old.meter.nest) r old new
 
 -- how a walk ends without a result, as a refusal
 abbrev pub verify_refusal : WalkHalt → VerifyRefusal

@@ -1,6 +1,7 @@
 //! Constants.
 ghost use Rattle.std.specs.Prelude.{◌≡◌, ◌+◌, [], IfOk};
 ghost use Rattle.pc_terms.specs.Formed.{IsFormed};
+ghost use Rattle.pc_rules.specs.DirectedRun.{most_nested};
 ghost use Rattle.rule_laws.specs.Declarations.{BodyFormed};
 ghost use Rattle.type_infer.specs.Ready.{IsReady};
 ghost use Rattle.type_cert.specs.Retraces.{Retraces, stand};
@@ -25,7 +26,7 @@ fn check_body<G: Guarder>(
     body: &Option<Term>,
     trail: &mut Trail,
 ) -> Result<(), WalkHalt>
-    requires nest { walk.now.verifier.room + trail.old.meter.nest ≡ 2048 }
+    requires nest { walk.now.verifier.room + trail.old.meter.nest ≡ most_nested }
     requires ready { IsReady walk.now.verifier.env.now [] }
     ensures retraces { Retraces (body_walk walk.now.verifier ty.now body.now (stand trail.old)) result trail.old trail.new }
     ensures formed { IfOk result (λ _. BodyFormed body.now) }
@@ -50,7 +51,7 @@ pub(crate) fn constant<G: Guarder>(
     body: &Option<Term>,
     trail: &mut Trail,
 ) -> Result<Kept, WalkHalt>
-    requires nest { walk.now.verifier.room + trail.old.meter.nest ≡ 2048 }
+    requires nest { walk.now.verifier.room + trail.old.meter.nest ≡ most_nested }
     requires ready { IsReady walk.now.verifier.env.now [] }
     ensures retraces { Retraces (constant_walk walk.now.verifier name ty.now body.now (stand trail.old)) result trail.old trail.new }
     ensures formed { IfOk result (λ _. IsFormed ty.now × BodyFormed body.now) }

@@ -2,6 +2,7 @@
 ghost use Rattle.std.specs.Prelude.{◌≡◌, ◌+◌, [], map, IfOk, IfErr};
 ghost use Rattle.calculus_rules.specs.Accepted.{IsAccepted};
 ghost use Rattle.pc_rules.specs.Follows.{IsAfter};
+ghost use Rattle.pc_rules.specs.DirectedRun.{most_nested};
 ghost use Rattle.rule_laws.specs.Declarations.{GivenFormed, AllGivenFormed};
 ghost use Rattle.type_infer.specs.Ready.{IsReady};
 ghost use Rattle.inductive_check.specs.Given.{given_of};
@@ -31,7 +32,7 @@ fn declaration<G: Guarder>(
     decl: &RawDecl,
     trail: &mut Trail,
 ) -> Result<Kept, WalkHalt>
-    requires nest { walk.now.verifier.room + trail.old.meter.nest ≡ 2048 }
+    requires nest { walk.now.verifier.room + trail.old.meter.nest ≡ most_nested }
     requires ready { IsReady walk.now.verifier.env.now [] }
     ensures retraces { Retraces (declaration_walk walk.now.verifier (given_of decl.now) (stand trail.old)) result trail.old trail.new }
     ensures formed { IfOk result (λ _. GivenFormed (given_of decl.now)) }
@@ -59,7 +60,7 @@ pub(crate) fn declarations<'x, G: Guarder>(
     decls: &[RawDecl],
     trail: &mut Trail,
 ) -> Result<Env, WalkHalt>
-    requires nest { room + trail.old.meter.nest ≡ 2048 }
+    requires nest { room + trail.old.meter.nest ≡ most_nested }
     requires accepted { IsAccepted env }
     ensures leads_on { IfOk result (λ e. LeadsOn cert.now room env (map given_of decls.now) trail.old e [] trail.new) }
     ensures halts { IfErr result (λ h. StopsAmong cert.now room env (map given_of decls.now) trail.old h trail.new) }

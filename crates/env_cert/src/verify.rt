@@ -2,6 +2,7 @@
 ghost use Rattle.std.specs.Prelude.{◌≡◌, ◌+◌, [], IfOk};
 ghost use Rattle.dump_reader.specs.Spelled.{IsSpelled};
 ghost use Rattle.pc_rules.specs.Follows.{IsAfter};
+ghost use Rattle.pc_rules.specs.DirectedRun.{most_nested};
 ghost use Rattle.rule_laws.specs.Declarations.{IsCheckedEnvironment};
 ghost use Rattle.type_infer.specs.Ready.{IsReady};
 ghost use Rattle.env_check.specs.Rules.{givens};
@@ -33,7 +34,7 @@ fn walk_main<G: Guarder>(
     main: &Term,
     trail: &mut Trail,
 ) -> Result<Term, WalkHalt>
-    requires nest { walk.now.verifier.room + trail.old.meter.nest ≡ 2048 }
+    requires nest { walk.now.verifier.room + trail.old.meter.nest ≡ most_nested }
     requires ready { IsReady walk.now.verifier.env.now [] }
     ensures retraces { Retraces (main_walk walk.now.verifier main.now (stand trail.old)) (in_env walk.now.verifier.env.now result) trail.old trail.new }
 {

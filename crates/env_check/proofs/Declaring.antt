@@ -20,6 +20,7 @@ use Rattle.pc_rules.specs.Follows.{Halts, IsAfter, Follows}
 use Rattle.calculus_rules.specs.Lookups.{kept_at}
 use Rattle.pc_rules.specs.DirectedRun as run
 use Rattle.pc_rules.specs.DirectedDeclarations.{Given, declaration_rule, declarations_rule, main_rule, first_repeated}
+use Rattle.pc_rules.specs.DirectedRun.{most_nested}
 use Rattle.rule_laws.specs.Declarations.{plain, plain_given, IsCheckedDeclaration, IsCheckedEnvironment}
 use Rattle.rule_laws.proofs.TypedCounts.{accepted_counted}
 use Rattle.rule_laws.proofs.Extending.{not_found}
@@ -100,25 +101,25 @@ accepted_fresh (block a fresh fits) = fresh
 pub checked_new : (H : Env) (d : Given) (k : Kept) → IsCheckedDeclaration H.levels H.constraints H.declarations d k → IsNew H (name_of k)
 checked_new H d k is = not_found H.declarations (name_of k) (kept_at H.declarations (name_of k)) (accepted_fresh is.accepted) refl
 
-module _ (E : Env) (m0 : Meter) (xs : List RawDecl) (i : ℕ) (H : Env) (m : Meter) (c : HasChecked E (2048 - m0.nest) (map given_of xs) m0.account i H m.account) (after : IsAfter m0 m)
+module _ (E : Env) (m0 : Meter) (xs : List RawDecl) (i : ℕ) (H : Env) (m : Meter) (c : HasChecked E (most_nested - m0.nest) (map given_of xs) m0.account i H m.account) (after : IsAfter m0 m)
     (x : RawDecl) (within : i < length xs) (is : x ≡ get_or xs i x) where
-  pub read_more : (k : Kept) (m1 : Meter) (H' : Env) → Follows (declaration_rule H (test_of H) (2048 - m.nest) (given_of x) m.account) (Ok k) m m1 →
-      IsCheckedDeclaration H.levels H.constraints H.declarations (given_of x) k → H' ≡ with_kept H k → HasChecked E (2048 - m0.nest) (map given_of xs) m0.account (i + 1) H' m1.account
+  pub read_more : (k : Kept) (m1 : Meter) (H' : Env) → Follows (declaration_rule H (test_of H) (most_nested - m.nest) (given_of x) m.account) (Ok k) m m1 →
+      IsCheckedDeclaration H.levels H.constraints H.declarations (given_of x) k → H' ≡ with_kept H k → HasChecked E (most_nested - m0.nest) (map given_of xs) m0.account (i + 1) H' m1.account
   read_more k m1 H' f checked kept =
-      let e = subst (λ n. (declaration_rule H (test_of H) (2048 - n) (given_of x) m.account).end ≡ run.Done k m1.account) after.nest f.answer in
-      rw add-one (checked_more E (2048 - m0.nest) (map given_of xs) m0.account i H m.account c (given_of x) (given_at xs i x within is) k m1.account H' (given_taken xs i x within is) e checked kept)
+      let e = subst (λ n. (declaration_rule H (test_of H) (most_nested - n) (given_of x) m.account).end ≡ run.Done k m1.account) after.nest f.answer in
+      rw add-one (checked_more E (most_nested - m0.nest) (map given_of xs) m0.account i H m.account c (given_of x) (given_at xs i x within is) k m1.account H' (given_taken xs i x within is) e checked kept)
 
-  pub read_halted : (h : Halt) (m1 : Meter) → Follows (declaration_rule H (test_of H) (2048 - m.nest) (given_of x) m.account) (Err h) m m1 → (main : Term) →
-      CheckAnswers (declarations_rule E.levels E.constraints (test_of E) (2048 - m0.nest) 0 [] (map given_of xs) main m0.account) (Err (refusal_at (AtDeclaration i) m.account h)) m1.account
+  pub read_halted : (h : Halt) (m1 : Meter) → Follows (declaration_rule H (test_of H) (most_nested - m.nest) (given_of x) m.account) (Err h) m m1 → (main : Term) →
+      CheckAnswers (declarations_rule E.levels E.constraints (test_of E) (most_nested - m0.nest) 0 [] (map given_of xs) main m0.account) (Err (refusal_at (AtDeclaration i) m.account h)) m1.account
   read_halted h m1 f main =
-      let e = subst (λ n. Halts (declaration_rule H (test_of H) (2048 - n) (given_of x) m.account) h m1.account) after.nest f.answer in
-      checked_halted E (2048 - m0.nest) (map given_of xs) m0.account i H m.account c (given_of x) (given_at xs i x within is) h m1.account e main
+      let e = subst (λ n. Halts (declaration_rule H (test_of H) (most_nested - n) (given_of x) m.account) h m1.account) after.nest f.answer in
+      checked_halted E (most_nested - m0.nest) (map given_of xs) m0.account i H m.account c (given_of x) (given_at xs i x within is) h m1.account e main
 
-  pub read_place : (h : Halt) (m1 : Meter) → Follows (declaration_rule H (test_of H) (2048 - m.nest) (given_of x) m.account) (Err h) m m1 → (main : Term) →
-      StandsAt E (2048 - m0.nest) (map given_of xs) main m0.account (refusal_at (AtDeclaration i) m.account h)
+  pub read_place : (h : Halt) (m1 : Meter) → Follows (declaration_rule H (test_of H) (most_nested - m.nest) (given_of x) m.account) (Err h) m m1 → (main : Term) →
+      StandsAt E (most_nested - m0.nest) (map given_of xs) main m0.account (refusal_at (AtDeclaration i) m.account h)
   read_place h m1 f main =
-      let e = subst (λ n. Halts (declaration_rule H (test_of H) (2048 - n) (given_of x) m.account) h m1.account) after.nest f.answer in
-      declaration_place E (2048 - m0.nest) (map given_of xs) m0.account i H m.account m1.account (given_of x) main h c.comes
+      let e = subst (λ n. Halts (declaration_rule H (test_of H) (most_nested - n) (given_of x) m.account) h m1.account) after.nest f.answer in
+      declaration_place E (most_nested - m0.nest) (map given_of xs) m0.account i H m.account m1.account (given_of x) main h c.comes
       (given_there i (map given_of xs) (drop (suc i) (map given_of xs)) (given_of x) (given_at xs i x within is)) e
 
 -- all of them

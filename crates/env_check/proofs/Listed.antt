@@ -1,5 +1,6 @@
 -- Levels that were listed before.
 use Rattle.std.proofs.Common.{◌≡◌, ℕ, suc, ◌+◌, ◌<◌, ◌==◌, ◌||◌, not, Bool, true, false, cond, if◌then◌else◌, List, [], ◌∷◌, drop, drop-cons, get_or, length, Some, refl, sym, ap, ◌∙◌, add-one, arith}
+use Rattle.std.proofs.lemmas.Bool.{not-true, not-false}
 use Rattle.std.proofs.lemmas.Bool.Decides.{nat_tests}
 use Rattle.universe_levels.specs.declared.level.Level.{Level}
 use Rattle.pc_rules.specs.DirectedDeclarations.{has_level, first_repeated}
@@ -33,16 +34,12 @@ new_level : (i : ℕ) (before : List Level) (l : Level) (ls : List Level) → ha
     first_repeated i before (l ∷ ls) ≡ first_repeated (suc i) (l ∷ before) ls
 new_level i before l ls h = repeated_next (has_level l before) i before l ls h
 
-not_there : (b : Bool) → not b ≡ true → b ≡ false
-not_there true h = sym h
-not_there false h = refl
-
 -- level i is new, so the first repeated one is sought among the later ones
 pub new_at : (levels before : List Level) (i : ℕ) (d : Level) (b : Bool) → i < length levels → not b ≡ true → b ≡ is_listed (get_or levels i d).0 before →
     first_repeated i before (drop i levels) ≡ first_repeated (i + 1) (get_or levels i d ∷ before) (drop (i + 1) levels)
 new_at levels before i d b within added is =
     let l : Level = get_or levels i d in
-    rw (add-one, drop-cons levels i d within) (new_level i before l (drop (suc i) levels) (listed_is l before ∙ sym is ∙ not_there b added))
+    rw (add-one, drop-cons levels i d within) (new_level i before l (drop (suc i) levels) (listed_is l before ∙ sym is ∙ not-true b added))
 
 -- level i was listed before, so it is the first repeated one
 
@@ -51,12 +48,8 @@ repeated_here : (b : Bool) (i : ℕ) (before : List Level) (l : Level) (ls : Lis
 repeated_here true i before l ls h = refl
 repeated_here false i before l ls h = absurd (cc)
 
-there : (b : Bool) → not b ≡ false → b ≡ true
-there true h = refl
-there false h = sym h
-
 pub repeated_at : (levels before : List Level) (i : ℕ) (d : Level) (b : Bool) → i < length levels → not b ≡ false → b ≡ is_listed (get_or levels i d).0 before →
     first_repeated i before (drop i levels) ≡ Some (i, get_or levels i d)
 repeated_at levels before i d b within added is =
     let l : Level = get_or levels i d in
-    rw (drop-cons levels i d within) (repeated_here (has_level l before) i before l (drop (suc i) levels) (listed_is l before ∙ sym is ∙ there b added))
+    rw (drop-cons levels i d within) (repeated_here (has_level l before) i before l (drop (suc i) levels) (listed_is l before ∙ sym is ∙ not-false b added))

@@ -17,6 +17,7 @@ use Rattle.calculus_rules.specs.Typing.{Types, guarded}
 use Rattle.pc_rules.specs.Entailment.{entailed_by, test_of}
 use Rattle.pc_rules.specs.Follows.{IsAfter}
 use Rattle.pc_rules.specs.DirectedDeclarations.{Given, Checked, first_repeated, first_undeclared_end, place_of, main_rule, declarations_rule, graph_rule, constraints_rule, levels_rule}
+use Rattle.pc_rules.specs.DirectedRun.{most_nested}
 use Rattle.rule_laws.specs.Declarations.{IsCheckedEnvironment}
 use Rattle.inductive_check.specs.Given.{given_of}
 use Rattle.env_check.specs.declared.refusal.Refusal.{Refusal}
@@ -30,9 +31,9 @@ use Rattle.env_check.specs.Beginning.{HasSoundLevels, Refuses, level_refusal, en
 use Rattle.env_check.specs.Places.{StandsAt, StandsInMain, bare}
 use Rattle.env_check.proofs.Steps.{leads_is, leads_answers, place_in_main}
 use Rattle.env_check.proofs.Declaring.{checked_all, checked_whole}
-use Rattle.rule_laws.proofs.SimpleRules.{some_none}
+use Rattle.pc_rules.proofs.WeakNext.{none_some}
 
-follows_found : (raw : RawEnv) (r : Result Accepted Refusal) (old new : Meter) → AnswersFound raw (2048 - old.nest) old.account r new.account → FollowsRules raw r old new
+follows_found : (raw : RawEnv) (r : Result Accepted Refusal) (old new : Meter) → AnswersFound raw (most_nested - old.nest) old.account r new.account → FollowsRules raw r old new
 follows_found raw (Ok a) old new h = h
 follows_found raw (Err (Broken p b)) old new h = h
 follows_found raw (Err (Spent p v)) old new h = h
@@ -81,8 +82,8 @@ module _ (raw : RawEnv) where
   level_found e m a there is =
       follows_found raw (Err (refused_bare e)) m m (record {
         cycle = None;
-        found = λ once. absurd (some_none (sym there ∙ once));
-        answers = level_answer (first_repeated 0 [] raw.levels) (from_constraints None (2048 - m.nest) m.account) m.account e a there is;
+        found = λ once. absurd (none_some (sym once ∙ there));
+        answers = level_answer (first_repeated 0 [] raw.levels) (from_constraints None (most_nested - m.nest) m.account) m.account e a there is;
       })
 
   levels_refused : (e : BareRefusal) (m : Meter) → Refuses (first_repeated 0 [] raw.levels) level_refusal e → FollowsRules raw (Err (refused_bare e)) m m
@@ -99,11 +100,11 @@ module _ (raw : RawEnv) where
 
     end_found : (e : BareRefusal) (m : Meter) (a : ℕ × Level) → first_undeclared_end (length raw.levels) 0 raw.constraints ≡ Some a → e ≡ end_refusal a → FollowsRules raw (Err (refused_bare e)) m m
     end_found e m a there is =
-        let go = from_graph None (2048 - m.nest) m.account in
-        let pass : rules_of raw None (2048 - m.nest) m.account ≡ from_constraints None (2048 - m.nest) m.account = levels_pass (first_repeated 0 [] raw.levels) (from_constraints None (2048 - m.nest) m.account) m.account once in
+        let go = from_graph None (most_nested - m.nest) m.account in
+        let pass : rules_of raw None (most_nested - m.nest) m.account ≡ from_constraints None (most_nested - m.nest) m.account = levels_pass (first_repeated 0 [] raw.levels) (from_constraints None (most_nested - m.nest) m.account) m.account once in
         follows_found raw (Err (refused_bare e)) m m (record {
           cycle = None;
-          found = λ _ declared. absurd (some_none (sym there ∙ declared));
+          found = λ _ declared. absurd (none_some (sym declared ∙ there));
           answers = leads_answers _ _ (Err (refused_bare e)) m.account (leads_is _ _ pass) (end_answer (first_undeclared_end (length raw.levels) 0 raw.constraints) go m.account e a there is);
         })
 
@@ -121,11 +122,11 @@ module _ (raw : RawEnv) where
 
       cycle_found : (e : BareRefusal) (m : Meter) (places : List ℕ) → Clashes (length raw.levels) raw.constraints places → e ≡ bare_refusals.Broken (place_of places) (UniverseCycle places) → FollowsRules raw (Err (refused_bare e)) m m
       cycle_found e m places clash is =
-          let here : CheckAnswers (from_graph (Some places) (2048 - m.nest) m.account) (Err (refused_bare e)) m.account = subst (λ x. CheckAnswers (from_graph (Some places) (2048 - m.nest) m.account) (Err (refused_bare x)) m.account) (sym is) refl in
+          let here : CheckAnswers (from_graph (Some places) (most_nested - m.nest) m.account) (Err (refused_bare e)) m.account = subst (λ x. CheckAnswers (from_graph (Some places) (most_nested - m.nest) m.account) (Err (refused_bare x)) m.account) (sym is) refl in
           follows_found raw (Err (refused_bare e)) m m (record {
             cycle = Some places;
             found = λ _ _. clash;
-            answers = leads_answers _ _ (Err (refused_bare e)) m.account (leads_is _ _ (passes (Some places) (2048 - m.nest) m.account)) here;
+            answers = leads_answers _ _ (Err (refused_bare e)) m.account (leads_is _ _ (passes (Some places) (most_nested - m.nest) m.account)) here;
           })
 
       graph_refused : (e : BareRefusal) (m : Meter) → RefusesGraph (length raw.levels) raw.constraints e → FollowsRules raw (Err (refused_bare e)) m m
@@ -141,9 +142,9 @@ module _ (raw : RawEnv) where
           ∙ ap (λ cs. declarations_rule (length raw.levels) cs (entailed_by (length raw.levels) cs) n 0 [] (givens raw) raw.main u) ec
 
       declarations_answer : (E : Env) (r : Result Accepted Refusal) (old new : Meter) → E.levels ≡ length raw.levels → E.constraints ≡ raw.constraints → IsConsistent (length raw.levels) raw.constraints →
-          CheckAnswers (declarations_rule E.levels E.constraints (test_of E) (2048 - old.nest) 0 [] (givens raw) raw.main old.account) r new.account → FollowsRules raw r old new
+          CheckAnswers (declarations_rule E.levels E.constraints (test_of E) (most_nested - old.nest) 0 [] (givens raw) raw.main old.account) r new.account → FollowsRules raw r old new
       declarations_answer E r old new el ec consistent h =
-          let n = 2048 - old.nest in
+          let n = most_nested - old.nest in
           follows_found raw r old new (record {
             cycle = None;
             found = λ _ _. consistent;
@@ -152,39 +153,39 @@ module _ (raw : RawEnv) where
 
       pub declarations_refused : (E : Env) (xs : List RawDecl) (e : Refusal) (old new : Meter) → xs ≡ raw.decls → E.levels ≡ length raw.levels → E.constraints ≡ raw.constraints →
           IsConsistent (length raw.levels) raw.constraints →
-          CheckAnswers (declarations_rule E.levels E.constraints (test_of E) (2048 - old.nest) 0 [] (map given_of xs) raw.main old.account) (Err e) new.account → FollowsRules raw (Err e) old new
+          CheckAnswers (declarations_rule E.levels E.constraints (test_of E) (most_nested - old.nest) 0 [] (map given_of xs) raw.main old.account) (Err e) new.account → FollowsRules raw (Err e) old new
       declarations_refused E xs e old new is el ec consistent h =
           declarations_answer E (Err e) old new el ec consistent
-          (subst (λ ys. CheckAnswers (declarations_rule E.levels E.constraints (test_of E) (2048 - old.nest) 0 [] (map given_of ys) raw.main old.account) (Err e) new.account) is h)
+          (subst (λ ys. CheckAnswers (declarations_rule E.levels E.constraints (test_of E) (most_nested - old.nest) 0 [] (map given_of ys) raw.main old.account) (Err e) new.account) is h)
 
       module _ (E : Env) (xs : List RawDecl) (is : xs ≡ raw.decls) (el : E.levels ≡ length raw.levels) (ec : E.constraints ≡ raw.constraints) (m0 m1 : Meter) (H : Env)
-          (after : IsAfter m0 m1) (c : HasChecked E (2048 - m0.nest) (map given_of xs) m0.account (length xs) H m1.account) where
-        givens_checked : HasChecked E (2048 - m0.nest) (givens raw) m0.account (length (givens raw)) H m1.account
+          (after : IsAfter m0 m1) (c : HasChecked E (most_nested - m0.nest) (map given_of xs) m0.account (length xs) H m1.account) where
+        givens_checked : HasChecked E (most_nested - m0.nest) (givens raw) m0.account (length (givens raw)) H m1.account
         givens_checked =
-            subst (λ ys. HasChecked E (2048 - m0.nest) (map given_of ys) m0.account (length (map given_of ys)) H m1.account) is
-            (subst (λ k. HasChecked E (2048 - m0.nest) (map given_of xs) m0.account k H m1.account) (sym (length-map xs given_of)) c)
+            subst (λ ys. HasChecked E (most_nested - m0.nest) (map given_of ys) m0.account (length (map given_of ys)) H m1.account) is
+            (subst (λ k. HasChecked E (most_nested - m0.nest) (map given_of xs) m0.account k H m1.account) (sym (length-map xs given_of)) c)
 
         pub main_follows : (r : Result Accepted Refusal) (m2 : Meter) → IsConsistent (length raw.levels) raw.constraints →
-            CheckAnswers (main_rule H (test_of H) (2048 - m1.nest) raw.main m1.account) r m2.account → FollowsRules raw r m0 m2
+            CheckAnswers (main_rule H (test_of H) (most_nested - m1.nest) raw.main m1.account) r m2.account → FollowsRules raw r m0 m2
         main_follows r m2 consistent h =
-            let n = 2048 - m0.nest in
-            let k = subst (λ x. CheckAnswers (main_rule H (test_of H) (2048 - x) raw.main m1.account) r m2.account) after.nest h in
+            let n = most_nested - m0.nest in
+            let k = subst (λ x. CheckAnswers (main_rule H (test_of H) (most_nested - x) raw.main m1.account) r m2.account) after.nest h in
             declarations_answer E r m0 m2 el ec consistent
             (leads_answers _ _ r m2.account (checked_all E n (givens raw) m0.account H m1.account givens_checked raw.main) k)
 
         -- the places of refusals
 
-        pub main_placed : (r : Result Accepted Refusal) → IfErr r (StandsInMain H (2048 - m1.nest) raw.main m1.account) → IfErr r (StandsAt E (2048 - m0.nest) (givens raw) raw.main m0.account)
+        pub main_placed : (r : Result Accepted Refusal) → IfErr r (StandsInMain H (most_nested - m1.nest) raw.main m1.account) → IfErr r (StandsAt E (most_nested - m0.nest) (givens raw) raw.main m0.account)
         main_placed (Ok a) h = tt
         main_placed (Err x) h =
-            let k = subst (λ n. StandsInMain H (2048 - n) raw.main m1.account x) after.nest h in
-            place_in_main E (2048 - m0.nest) (givens raw) m0.account H m1.account raw.main x givens_checked.comes k
+            let k = subst (λ n. StandsInMain H (most_nested - n) raw.main m1.account x) after.nest h in
+            place_in_main E (most_nested - m0.nest) (givens raw) m0.account H m1.account raw.main x givens_checked.comes k
 
         pub main_well_formed : (r : Result Accepted Refusal) → IfOk r (λ a. a.env ≡ H) → IfOk r (λ a. Types guarded H [] raw.main a.main_type) →
             IfOk r (λ a. IsCheckedEnvironment raw.levels raw.constraints (givens raw) raw.main a.env a.main_type)
         main_well_formed (Ok a) e t =
             subst (λ X. IsCheckedEnvironment raw.levels raw.constraints (givens raw) raw.main X a.main_type) (sym e)
-            (checked_whole E (2048 - m0.nest) (givens raw) m0.account H m1.account givens_checked raw.levels raw.constraints raw.main a.main_type once el ec t)
+            (checked_whole E (most_nested - m0.nest) (givens raw) m0.account H m1.account givens_checked raw.levels raw.constraints raw.main a.main_type once el ec t)
         main_well_formed (Err x) e t = tt
 
 -- what is refused before the declarations

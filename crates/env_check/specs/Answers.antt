@@ -6,6 +6,7 @@ use Rattle.pc_rules.specs.declared.accepted.Accepted.{Accepted}
 use Rattle.pc_rules.specs.declared.meter.Account.{Account}
 use Rattle.pc_rules.specs.declared.meter.Meter.{Meter}
 use Rattle.pc_rules.specs.DirectedDeclarations.{Checked, Accepts, Breaks, Spends}
+use Rattle.pc_rules.specs.DirectedRun.{most_nested}
 use Rattle.env_check.specs.declared.refusal.Refusal.{Refusal}
 use Rattle.env_check.specs.declared.refusal.Refusal.TheVariants.{Broken, Spent, TooDeep, Memory}
 use Rattle.env_check.specs.Rules.{rules_of, IsFound}
@@ -29,4 +30,4 @@ pub record AnswersFound (raw : RawEnv) (n : ℕ) (u : Account) (r : Result Accep
 -- the answer of a call that begins and ends with these meters; where there is no memory nothing need be found
 abbrev pub FollowsRules : RawEnv → Result Accepted Refusal → Meter → Meter → Type 0
 FollowsRules raw (Err Memory) old new = Unit {0}
-FollowsRules raw r old new = AnswersFound raw (2048 - old.nest) old.account r new.account
+FollowsRules raw r old new = AnswersFound raw (most_nested - old.nest) old.account r new.account

@@ -6,6 +6,7 @@ ghost use Rattle.pc_rules.specs.Entailment.{test_of};
 ghost use Rattle.pc_rules.specs.Follows.{IsAfter};
 ghost use Rattle.calculus_rules.specs.Typing.{Types, guarded};
 ghost use Rattle.pc_rules.specs.DirectedDeclarations.{main_rule};
+ghost use Rattle.pc_rules.specs.DirectedRun.{most_nested};
 ghost use Rattle.rule_laws.specs.Declarations.{IsCheckedEnvironment};
 ghost use Rattle.env_check.specs.Rules.{givens};
 ghost use Rattle.env_check.specs.Places.{StandsAt, StandsInMain, bare};
@@ -37,12 +38,12 @@ fn check_main<T: Typer>(
     m: &mut Meter,
 ) -> Result<Accepted, Refusal>
     requires accepted { IsAccepted env }
-    ensures answers { CheckAnswers (main_rule env (test_of env) (2048 - m.old.nest) main.now m.old.account) result m.new.account }
+    ensures answers { CheckAnswers (main_rule env (test_of env) (most_nested - m.old.nest) main.now m.old.account) result m.new.account }
     ensures after { IsAfter m.old m.new }
     ensures env { IfOk result (λ a. a.env ≡ env) }
     ensures main { IfOk result (λ a. a.main ≡ main.now) }
     ensures typed { IfOk result (λ a. Types guarded env [] main.now a.main_type) }
-    ensures placed { IfErr result (StandsInMain env (2048 - m.old.nest) main.now m.old.account) }
+    ensures placed { IfErr result (StandsInMain env (most_nested - m.old.nest) main.now m.old.account) }
 {
     let before = m.account;
     let main_type = match typer.infer(alloc, &env, &Ctx::new(), main, m) {
@@ -80,7 +81,7 @@ pub fn check_env<R: Reducer>(
     requires spelled { IsSpelled raw.now }
     ensures follows { FollowsRules raw.now result m.old m.new }
     ensures after { IsAfter m.old m.new }
-    ensures placed { IfErr result (StandsAt (bare raw.now) (2048 - m.old.nest) (givens raw.now) raw.now.main m.old.account) }
+    ensures placed { IfErr result (StandsAt (bare raw.now) (most_nested - m.old.nest) (givens raw.now) raw.now.main m.old.account) }
     ensures main { IfOk result (λ a. a.main ≡ raw.now.main) }
     ensures well_formed { IfOk result (λ a. IsCheckedEnvironment raw.now.levels raw.now.constraints (givens raw.now) raw.now.main a.env a.main_type) }
 {

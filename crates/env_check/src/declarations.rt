@@ -9,6 +9,7 @@ ghost use Rattle.pc_rules.specs.Entailment.{test_of};
 ghost use Rattle.pc_rules.specs.Follows.{Follows, Answers as AnswersRun, IsAfter};
 ghost use Rattle.calculus_rules.specs.Lookups.{kept_at};
 ghost use Rattle.pc_rules.specs.DirectedDeclarations.{fresh_name, constant_rule, declaration_rule, GivenConstant};
+ghost use Rattle.pc_rules.specs.DirectedRun.{most_nested};
 ghost use Rattle.rule_laws.specs.Declarations.{IsCheckedDeclaration};
 ghost use Rattle.inductive_check.specs.Given.{given_of};
 ghost use Rattle.env_check.specs.Places.{StandsAt};
@@ -50,7 +51,7 @@ fn check_body<T: Typer>(
     m: &mut Meter,
 ) -> Result<(), Halt>
     requires accepted { IsAccepted env.now }
-    ensures follows { Follows (body_within env.now (2048 - m.old.nest) ty.now body.now m.old.account) result m.old m.new }
+    ensures follows { Follows (body_within env.now (most_nested - m.old.nest) ty.now body.now m.old.account) result m.old m.new }
     ensures fits { IfOk result (λ _. BodyFits env.now ty.now body.now) }
 {
     match body {
@@ -82,7 +83,7 @@ fn check_constant<T: Typer>(
 ) -> Result<Kept, Halt>
     requires accepted { IsAccepted env.now }
     requires new { IsNew env.now name }
-    ensures follows { Follows (constant_rule env.now (test_of env.now) (2048 - m.old.nest) name ty.now body.now m.old.account) result m.old m.new }
+    ensures follows { Follows (constant_rule env.now (test_of env.now) (most_nested - m.old.nest) name ty.now body.now m.old.account) result m.old m.new }
     ensures checked { IfOk result (IsCheckedDeclaration env.now.levels env.now.constraints env.now.declarations (GivenConstant name ty.now body.now)) }
 {
     typer.sort_of(alloc, env, &Ctx::new(), ty, m)?;
@@ -103,7 +104,7 @@ fn check_declaration<T: Typer, R: Reducer>(
     m: &mut Meter,
 ) -> Result<Kept, Halt>
     requires accepted { IsAccepted env.now }
-    ensures follows { Follows (declaration_rule env.now (test_of env.now) (2048 - m.old.nest) (given_of decl.now) m.old.account) result m.old m.new }
+    ensures follows { Follows (declaration_rule env.now (test_of env.now) (most_nested - m.old.nest) (given_of decl.now) m.old.account) result m.old m.new }
     ensures checked { IfOk result (IsCheckedDeclaration env.now.levels env.now.constraints env.now.declarations (given_of decl.now)) }
 {
     match decl {
@@ -131,9 +132,9 @@ pub(crate) fn check_declarations<T: Typer, R: Reducer>(
     requires few { length decls.now ≤ 65536 }
     requires accepted { IsAccepted env }
     requires empty { env.declarations ≡ [] }
-    ensures checked { IfOk result (λ e. HasChecked env (2048 - m.old.nest) (map given_of decls.now) m.old.account (length decls.now) e m.new.account) }
-    ensures refused { IfErr result (λ e. RefusesDeclarations env (2048 - m.old.nest) (map given_of decls.now) m.old.account e m.new.account) }
-    ensures placed { IfErr result (λ e. (main : Main) → StandsAt env (2048 - m.old.nest) (map given_of decls.now) main m.old.account e) }
+    ensures checked { IfOk result (λ e. HasChecked env (most_nested - m.old.nest) (map given_of decls.now) m.old.account (length decls.now) e m.new.account) }
+    ensures refused { IfErr result (λ e. RefusesDeclarations env (most_nested - m.old.nest) (map given_of decls.now) m.old.account e m.new.account) }
+    ensures placed { IfErr result (λ e. (main : Main) → StandsAt env (most_nested - m.old.nest) (map given_of decls.now) main m.old.account e) }
     ensures after { IsAfter m.old m.new }
 {
     for (i, decl) in decls.iter().enumerate() {

@@ -12,6 +12,7 @@ use Rattle.pc_rules.specs.declared.meter.Meter.{Meter}
 use Rattle.pc_rules.specs.DirectedDeclarations.{Checked, IsCycle, first_repeated, first_undeclared_end, declarations_rule, graph_rule, constraints_rule, levels_rule}
 use Rattle.pc_rules.specs.Entailment.{entailed_by}
 use Rattle.pc_rules.proofs.Entailing.{entailed_decides}
+use Rattle.pc_rules.specs.DirectedRun.{most_nested}
 use Rattle.rule_laws.proofs.Environments.{are_over}
 use Rattle.env_check.specs.Rules.{givens, rules_of, IsFound}
 use Rattle.env_check.proofs.Cycles.{no_cycle}
@@ -103,21 +104,21 @@ module _ (raw : RawEnv) (spelled : IsSpelled raw) where
   -- the answer is the one of the check
   pub follows_directed : (r : Result Items CertRefusal) (old new : Meter) → MakesCert raw r old new → FollowsDirected raw r old new
   follows_directed (Ok cert) old new h =
-      record { cycle = h.cycle; found = h.found; answers = answers_rules h.cycle h.found (2048 - old.nest) old.account (Ok cert) new.account h.answers }
+      record { cycle = h.cycle; found = h.found; answers = answers_rules h.cycle h.found (most_nested - old.nest) old.account (Ok cert) new.account h.answers }
   follows_directed (Err (Broken p b)) old new h =
-      record { cycle = h.cycle; found = h.found; answers = answers_rules h.cycle h.found (2048 - old.nest) old.account (Err (Broken p b)) new.account h.answers }
+      record { cycle = h.cycle; found = h.found; answers = answers_rules h.cycle h.found (most_nested - old.nest) old.account (Err (Broken p b)) new.account h.answers }
   follows_directed (Err Spent) old new h =
-      record { cycle = h.cycle; found = h.found; answers = answers_rules h.cycle h.found (2048 - old.nest) old.account (Err Spent) new.account h.answers }
+      record { cycle = h.cycle; found = h.found; answers = answers_rules h.cycle h.found (most_nested - old.nest) old.account (Err Spent) new.account h.answers }
   follows_directed (Err TooDeep) old new h =
-      record { cycle = h.cycle; found = h.found; answers = answers_rules h.cycle h.found (2048 - old.nest) old.account (Err TooDeep) new.account h.answers }
+      record { cycle = h.cycle; found = h.found; answers = answers_rules h.cycle h.found (most_nested - old.nest) old.account (Err TooDeep) new.account h.answers }
   follows_directed (Err Memory) old new h = tt
 
   -- what has a certificate is well formed
   pub certified_well : (r : Result Items CertRefusal) (old new : Meter) → MakesCert raw r old new → IfOk r (λ _. IsVerified raw)
   certified_well (Err e) old new h = tt
   certified_well (Ok cert) old new h =
-      let a = answers_rules h.cycle h.found (2048 - old.nest) old.account (Ok cert) new.account h.answers in
-      (a.0, a.1, accepted_checked raw h.cycle h.found (2048 - old.nest) old.account a.0 a.1 new.account a.2 spelled)
+      let a = answers_rules h.cycle h.found (most_nested - old.nest) old.account (Ok cert) new.account h.answers in
+      (a.0, a.1, accepted_checked raw h.cycle h.found (most_nested - old.nest) old.account a.0 a.1 new.account a.2 spelled)
 
   -- a walk that accepts is neither refused nor without units
 
@@ -137,25 +138,25 @@ module _ (raw : RawEnv) (spelled : IsSpelled raw) where
     taken_walk : (cycle : Option (List ℕ)) → IsFound raw cycle → (n : ℕ) (w : Account) → m0.account.left - m1.account.left ≤ w.left →
         (x : Env × Term) × AcceptsWithin (walk_of cert raw cycle n w) x (w.left + m1.account.left) m0.account.left
     taken_walk cycle found n w few =
-        let a = answers_rules h.cycle h.found (2048 - m0.nest) m0.account (Ok cert) m1.account h.answers in
-        let l = accepted_levels raw h.cycle h.found (2048 - m0.nest) m0.account a.0 a.1 m1.account a.2 in
+        let a = answers_rules h.cycle h.found (most_nested - m0.nest) m0.account (Ok cert) m1.account h.answers in
+        let l = accepted_levels raw h.cycle h.found (most_nested - m0.nest) m0.account a.0 a.1 m1.account a.2 in
         let none : cycle ≡ h.cycle = no_cycle_found cycle (found l.0.once l.0.declared) l.0.consistent ∙ sym l.1 in
         let formed = read_formed raw spelled in
         let units : m0.account.left ≤ w.left + m1.account.left = omega arith in
         let E = h.answers.0 in
         let T = h.answers.1 in
-        let p = environment_accepted raw.levels cs h.cycle (entailed_by k cs) (entailed_decides k cs l.0.consistent l.0.over) (2048 - m0.nest) (givens raw) raw.main m0.account m1.account
+        let p = environment_accepted raw.levels cs h.cycle (entailed_by k cs) (entailed_decides k cs l.0.consistent l.0.over) (most_nested - m0.nest) (givens raw) raw.main m0.account m1.account
         (wrote cert (E, T)) formed.0 formed.1 h.answers.2 n w units in
         ((E, T), subst (λ o. AcceptsWithin (walk_of cert raw o n w) (E, T) (w.left + m1.account.left) m0.account.left) (sym none) p)
 
     certificate_taken : IsCertificateOf raw cert (m0.account.left - m1.account.left)
     certificate_taken (Ok a) old new few v = tt
     certificate_taken (Err (verify.Bad i)) old new few v =
-        let t = taken_walk v.cycle v.found (2048 - old.nest) old.account few in
-        not_barred (walk_of cert raw v.cycle (2048 - old.nest) old.account) t.0 (old.account.left + m1.account.left) m0.account.left i new.account t.1 v.answers
+        let t = taken_walk v.cycle v.found (most_nested - old.nest) old.account few in
+        not_barred (walk_of cert raw v.cycle (most_nested - old.nest) old.account) t.0 (old.account.left + m1.account.left) m0.account.left i new.account t.1 v.answers
     certificate_taken (Err verify.Spent) old new few v =
-        let t = taken_walk v.cycle v.found (2048 - old.nest) old.account few in
-        not_unpaid (walk_of cert raw v.cycle (2048 - old.nest) old.account) t.0 (old.account.left + m1.account.left) m0.account.left t.1 v.answers.0
+        let t = taken_walk v.cycle v.found (most_nested - old.nest) old.account few in
+        not_unpaid (walk_of cert raw v.cycle (most_nested - old.nest) old.account) t.0 (old.account.left + m1.account.left) m0.account.left t.1 v.answers.0
     certificate_taken (Err verify.TooDeep) old new few v = tt
     certificate_taken (Err verify.Memory) old new few v = tt
 

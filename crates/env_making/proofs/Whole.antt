@@ -10,7 +10,8 @@ use Rattle.pc_rules.specs.declared.meter.Meter.{Meter}
 use Rattle.pc_rules.specs.DirectedPlaces.{Gives, Breaks}
 use Rattle.pc_rules.specs.DirectedDeclarations.{first_repeated, first_undeclared_end}
 use Rattle.pc_rules.proofs.Meters.{after-refl}
-use Rattle.rule_laws.proofs.SimpleRules.{some_none}
+use Rattle.pc_rules.specs.DirectedRun.{most_nested}
+use Rattle.pc_rules.proofs.WeakNext.{none_some}
 use Rattle.inductive_check.specs.Given.{given_of}
 use Rattle.env_check.specs.declared.refusal.BareRefusal.{BareRefusal}
 use Rattle.env_check.specs.declared.refusal.BareRefusal.TheVariants as refusals
@@ -35,7 +36,7 @@ constraints_pass : (o : Option (ℕ × Level)) (go : Made) (u : Account) → o �
 constraints_pass o go u e = ap (λ x. make_constraints x go u) e
 
 module _ (raw : RawEnv) where
-  drafts_found : (r : Result (Env × Term) CertRefusal) (old new : Draft) → DraftsFound raw (2048 - old.meter.nest) r old new → DraftsAlong raw r old new
+  drafts_found : (r : Result (Env × Term) CertRefusal) (old new : Draft) → DraftsFound raw (most_nested - old.meter.nest) r old new → DraftsAlong raw r old new
   drafts_found (Ok p) old new h = h
   drafts_found (Err (Broken p b)) old new h = h
   drafts_found (Err Spent) old new h = h
@@ -57,8 +58,8 @@ module _ (raw : RawEnv) where
   level_found t e a there is =
       subst (λ x. DraftsAlong raw (Err (refused_first x)) t t) (sym is) (record {
         cycle = None;
-        found = λ once. absurd (some_none (sym there ∙ once));
-        makes = record { answer = ap (λ o. (make_levels o (from_constraints None (2048 - t.meter.nest) t.meter.account) t.meter.account).outcome) there; after = after-refl t.meter };
+        found = λ once. absurd (none_some (sym once ∙ there));
+        makes = record { answer = ap (λ o. (make_levels o (from_constraints None (most_nested - t.meter.nest) t.meter.account) t.meter.account).outcome) there; after = after-refl t.meter };
       })
 
   levels_refused : (t : Draft) (e : BareRefusal) → Refuses (first_repeated 0 [] raw.levels) level_refusal e → DraftsAlong raw (Err (refused_first e)) t t
@@ -70,11 +71,11 @@ module _ (raw : RawEnv) where
 
     end_found : (t : Draft) (e : BareRefusal) (a : ℕ × Level) → first_undeclared_end (length raw.levels) 0 raw.constraints ≡ Some a → e ≡ end_refusal a → DraftsAlong raw (Err (refused_first e)) t t
     end_found t e a there is =
-        let n = 2048 - t.meter.nest in
+        let n = most_nested - t.meter.nest in
         let u = t.meter.account in
         subst (λ x. DraftsAlong raw (Err (refused_first x)) t t) (sym is) (record {
           cycle = None;
-          found = λ _ declared. absurd (some_none (sym there ∙ declared));
+          found = λ _ declared. absurd (none_some (sym declared ∙ there));
           makes = record {
             answer = ap (λ g. g.outcome) (levels_pass (first_repeated 0 [] raw.levels) (from_constraints None n u) u once) ∙ ap (λ o. (make_constraints o (from_graph None n u) u).outcome) there;
             after = after-refl t.meter;
@@ -97,7 +98,7 @@ module _ (raw : RawEnv) where
           subst (λ x. DraftsAlong raw (Err (refused_first x)) t t) (sym h.2) (record {
             cycle = Some h.0;
             found = λ _ _. h.1;
-            makes = record { answer = ap (λ g. g.outcome) (passes (Some h.0) (2048 - t.meter.nest) t.meter.account); after = after-refl t.meter };
+            makes = record { answer = ap (λ g. g.outcome) (passes (Some h.0) (most_nested - t.meter.nest) t.meter.account); after = after-refl t.meter };
           })
       graph_refused t refusals.Memory h = tt
 
@@ -108,16 +109,16 @@ module _ (raw : RawEnv) where
   first_refused t e (at_graph once declared h) = graph_refused once declared t e h
 
   -- what is made of the declarations and main is made of the whole
-  whole_along : HasSoundLevels raw → (r : Result (Env × Term) CertRefusal) (t0 t : Draft) → MakesPlaced (from_declarations (2048 - t0.meter.nest) t0.meter.account) r t0 t → DraftsAlong raw r t0 t
+  whole_along : HasSoundLevels raw → (r : Result (Env × Term) CertRefusal) (t0 t : Draft) → MakesPlaced (from_declarations (most_nested - t0.meter.nest) t0.meter.account) r t0 t → DraftsAlong raw r t0 t
   whole_along sound r t0 t p =
       drafts_found r t0 t (record {
         cycle = None;
         found = λ _ _. sound.consistent;
-        makes = subst (λ g. MakesPlaced g r t0 t) (sym (passes sound.once sound.declared None (2048 - t0.meter.nest) t0.meter.account)) p;
+        makes = subst (λ g. MakesPlaced g r t0 t) (sym (passes sound.once sound.declared None (most_nested - t0.meter.nest) t0.meter.account)) p;
       })
 
   -- the same over what the calls have found: so many rules may stand in one another, the environment that keeps nothing, and the declarations
-  module _ (sound : HasSoundLevels raw) (t0 : Draft) (room : ℕ) (E : Env) (xs : List RawDecl) (er : room ≡ 2048 - t0.meter.nest) (eE : E ≡ bare raw) (ex : xs ≡ raw.decls) where
+  module _ (sound : HasSoundLevels raw) (t0 : Draft) (room : ℕ) (E : Env) (xs : List RawDecl) (er : room ≡ most_nested - t0.meter.nest) (eE : E ≡ bare raw) (ex : xs ≡ raw.decls) where
     from_bare : (r : Result (Env × Term) CertRefusal) (t : Draft) → MakesPlaced (declarations_making room E 0 (map given_of xs) raw.main t0.meter.account) r t0 t → DraftsAlong raw r t0 t
     from_bare r t p =
         whole_along sound r t0 t
@@ -141,12 +142,12 @@ along_passed raw t0 t1 (Err y) e is w = subst (λ x. DraftsAlong raw (Err x) t0 
 module _ (raw : RawEnv) (t0 t1 : Draft) (m0 m1 : Meter) (account : t0.meter.account ≡ m0.account) (nest : t0.meter.nest ≡ m0.nest) (none : t0.written.items ≡ [])
     (end : t1.meter.account ≡ m1.account) where
   abbrev made_from : Option (List ℕ) → Made
-  made_from cycle = making_of raw cycle (2048 - m0.nest) m0.account
+  made_from cycle = making_of raw cycle (most_nested - m0.nest) m0.account
 
-  begins : (cycle : Option (List ℕ)) → making_of raw cycle (2048 - t0.meter.nest) t0.meter.account ≡ made_from cycle
-  begins cycle = λ i. making_of raw cycle (2048 - nest i) (account i)
+  begins : (cycle : Option (List ℕ)) → making_of raw cycle (most_nested - t0.meter.nest) t0.meter.account ≡ made_from cycle
+  begins cycle = λ i. making_of raw cycle (most_nested - nest i) (account i)
 
-  answers : (cycle : Option (List ℕ)) (r : Result (Env × Term) CertRefusal) → PlacedWrites (making_of raw cycle (2048 - t0.meter.nest) t0.meter.account) r t0 t1 →
+  answers : (cycle : Option (List ℕ)) (r : Result (Env × Term) CertRefusal) → PlacedWrites (making_of raw cycle (most_nested - t0.meter.nest) t0.meter.account) r t0 t1 →
       CertAnswers (made_from cycle) (certified t1.written.items r) m1.account
   answers cycle (Ok p) h =
       let e : t1.written.items ≡ h.0 = h.2 ∙ ap (λ xs. xs ++ h.0) none in

@@ -8,6 +8,7 @@ use Rattle.pc_rules.specs.declared.meter.Account.{Account}
 use Rattle.pc_rules.specs.declared.meter.Meter.{Meter}
 use Rattle.pc_rules.specs.Entailment.{entailed_by}
 use Rattle.pc_rules.specs.DirectedDeclarations.{Checked, Accepts, Gives, Breaks, Spends}
+use Rattle.pc_rules.specs.DirectedRun.{most_nested}
 use Rattle.env_check.specs.Rules.{givens, rules_of, IsFound}
 use Rattle.cert_rules.specs.Walk.{Items}
 use Rattle.cert_rules.specs.Writing.{wrote}
@@ -41,7 +42,7 @@ pub record MakesFound (raw : RawEnv) (n : ℕ) (u : Account) (r : Result Items C
 -- the answer of a call that begins and ends with these meters; where there is no memory nothing need be found
 abbrev pub MakesCert : RawEnv → Result Items CertRefusal → Meter → Meter → Type 0
 MakesCert raw (Err Memory) old new = Unit {0}
-MakesCert raw r old new = MakesFound raw (2048 - old.nest) old.account r new.account
+MakesCert raw r old new = MakesFound raw (most_nested - old.nest) old.account r new.account
 
 -- the same answer by the directed rules of the check, which write nothing
 
@@ -59,7 +60,7 @@ pub record DirectedFound (raw : RawEnv) (n : ℕ) (u : Account) (r : Result Item
 
 abbrev pub FollowsDirected : RawEnv → Result Items CertRefusal → Meter → Meter → Type 0
 FollowsDirected raw (Err Memory) old new = Unit {0}
-FollowsDirected raw r old new = DirectedFound raw (2048 - old.nest) old.account r new.account
+FollowsDirected raw r old new = DirectedFound raw (most_nested - old.nest) old.account r new.account
 
 -- what verifying an environment with its certificate may answer: acceptance, a passed limit, or want of memory
 abbrev pub IsTaken : Result (Unit {0}) VerifyRefusal → Type 0

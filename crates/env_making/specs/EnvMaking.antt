@@ -6,7 +6,7 @@ use Rattle.dump_reader.specs.declared.environment.RawEnv.{RawEnv}
 use Rattle.calculus_rules.specs.declared.declaration.Kept.{Kept}
 use Rattle.calculus_rules.specs.Environment.{Env}
 use Rattle.pc_rules.specs.declared.meter.Account.{Account}
-use Rattle.pc_rules.specs.DirectedRun.{Run}
+use Rattle.pc_rules.specs.DirectedRun.{Run, most_nested}
 use Rattle.pc_rules.specs.DirectedDeclarations.{Given}
 use Rattle.pc_rules.specs.Entailment.{test_of}
 use Rattle.env_check.specs.Rules.{IsFound}
@@ -51,4 +51,4 @@ pub record DraftsFound (raw : RawEnv) (n : ℕ) (r : Result (Env × Term) CertRe
 
 abbrev pub DraftsAlong : RawEnv → Result (Env × Term) CertRefusal → Draft → Draft → Type 0
 DraftsAlong raw (Err Memory) old new = Unit {0}
-DraftsAlong raw r old new = DraftsFound raw (2048 - old.meter.nest) r old new
+DraftsAlong raw r old new = DraftsFound raw (most_nested - old.meter.nest) r old new

@@ -1,5 +1,6 @@
 //! Constants.
 ghost use Rattle.std.specs.Prelude.{◌≡◌, ◌+◌, []};
+ghost use Rattle.pc_rules.specs.DirectedRun.{most_nested};
 ghost use Rattle.type_infer.specs.Ready.{IsReady};
 ghost use Rattle.script_making.specs.Makes.{Makes};
 ghost use Rattle.env_making.specs.EnvMaking.{body_making, constant_making};
@@ -24,7 +25,7 @@ fn check_body<R: Reducer, G: Guarder>(
     body: &Option<Term>,
     draft: &mut Draft,
 ) -> Result<(), Halt>
-    requires nest { typer.now.maker.room + draft.old.meter.nest ≡ 2048 }
+    requires nest { typer.now.maker.room + draft.old.meter.nest ≡ most_nested }
     requires ready { IsReady typer.now.maker.env.now [] }
     ensures makes { Makes (body_making typer.now.maker.env.now typer.now.maker.room ty.now body.now draft.old.meter.account) result draft.old draft.new }
 {
@@ -46,7 +47,7 @@ pub(crate) fn constant<R: Reducer, G: Guarder>(
     body: &Option<Term>,
     draft: &mut Draft,
 ) -> Result<Kept, Halt>
-    requires nest { typer.now.maker.room + draft.old.meter.nest ≡ 2048 }
+    requires nest { typer.now.maker.room + draft.old.meter.nest ≡ most_nested }
     requires ready { IsReady typer.now.maker.env.now [] }
     ensures makes { Makes (constant_making typer.now.maker.env.now typer.now.maker.room name ty.now body.now draft.old.meter.account) result draft.old draft.new }
 {

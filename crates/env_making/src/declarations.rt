@@ -2,6 +2,7 @@
 ghost use Rattle.std.specs.Prelude.{◌≡◌, ◌+◌, ◌≤◌, length, [], map, IfOk, IfErr};
 ghost use Rattle.calculus_rules.specs.Accepted.{IsAccepted};
 ghost use Rattle.pc_rules.specs.Follows.{IsAfter};
+ghost use Rattle.pc_rules.specs.DirectedRun.{most_nested};
 ghost use Rattle.rule_laws.specs.Declarations.{AllGivenFormed};
 ghost use Rattle.type_infer.specs.Ready.{IsReady};
 ghost use Rattle.inductive_check.specs.Given.{given_of};
@@ -32,7 +33,7 @@ fn declaration<R: Reducer, G: Guarder>(
     decl: &RawDecl,
     draft: &mut Draft,
 ) -> Result<Kept, Halt>
-    requires nest { typer.now.maker.room + draft.old.meter.nest ≡ 2048 }
+    requires nest { typer.now.maker.room + draft.old.meter.nest ≡ most_nested }
     requires ready { IsReady typer.now.maker.env.now [] }
     ensures makes { Makes (declaration_making typer.now.maker.env.now typer.now.maker.room (given_of decl.now) draft.old.meter.account) result draft.old draft.new }
 {
@@ -60,7 +61,7 @@ pub(crate) fn declarations<'x, R: Reducer, G: Guarder>(
     draft: &mut Draft,
 ) -> Result<Env, CertRefusal>
     requires few { length decls.now ≤ 65536 }
-    requires nest { room + draft.old.meter.nest ≡ 2048 }
+    requires nest { room + draft.old.meter.nest ≡ most_nested }
     requires accepted { IsAccepted env }
     requires formed { AllGivenFormed (map given_of decls.now) }
     ensures leads_on { IfOk result (λ e. LeadsMaking room env 0 (map given_of decls.now) draft.old e (length decls.now) [] draft.new) }

@@ -7,8 +7,7 @@ use Rattle.pc_terms.specs.Syntax.{Term, SortT, Prod, Ind, Construct, apply, head
 use Rattle.calculus_rules.specs.Environment.{Env, SortEntails}
 use Rattle.calculus_rules.specs.Context.{Values}
 use Rattle.calculus_rules.specs.Conversion.{Equal, Below, back, chain, equal, same}
-use Rattle.calculus_rules.proofs.Spines.{head-apply, args-apply}
-use Rattle.typing_laws.proofs.Telescopes.{substitute-apply}
+use Rattle.calculus_rules.proofs.Spines.{head-apply, args-apply, substitute-apply}
 use Rattle.equality_laws.specs.Laws.{EqualEach, no_terms, a_term}
 use Rattle.equality_laws.proofs.Reducing.{ParEach, each_none, each_one, Convertible}
 use Rattle.equality_laws.proofs.Roots.{Settled}

@@ -15,8 +15,9 @@ use Rattle.calculus_rules.proofs.WeakHead.{weak_determined}
 use Rattle.trees.proofs.Put.{each_length, substitute_whole, substitute-put, substitute-put_all_in, substituted_term, term_at-substitute}
 use Rattle.typing_laws.proofs.ClosedEnv.{ClosedEnv}
 use Rattle.typing_laws.proofs.AcceptedClosed.{accepted_closed}
-use Rattle.typing_laws.proofs.Telescopes.{substitute-apply, substitute-unfolding}
+use Rattle.typing_laws.proofs.Telescopes.{substitute-unfolding}
 use Rattle.typing_laws.proofs.Traversal.{substitute_constructor}
+use Rattle.calculus_rules.proofs.Spines.{substitute-apply}
 
 -- what the proofs ask of an environment: each name is declared once, and the declarations are closed
 pub record Settled (E : Env) : Type 0 where

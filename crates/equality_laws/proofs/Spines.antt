@@ -6,7 +6,7 @@ use Rattle.calculus_rules.specs.Environment.{Env}
 use Rattle.calculus_rules.specs.Step.{IsConstructor, is_constructor, Root, beta, fixpoint}
 use Rattle.calculus_rules.proofs.Spines.{index_of, rargs_of, types_of, bodies_of, head_is, args_are, place_is}
 use Rattle.term_laws.proofs.Arguments.{spine-whole}
-pub use Rattle.term_laws.proofs.Arguments.{apply-append}
+pub use Rattle.pc_terms.proofs.Applied.{apply-append}
 use Rattle.equality_laws.proofs.Reducing.{Par, ParTerms, ParEach, rel, sorts, inside, contract, end, and, group, each_none, each_one}
 
 -- a term is its head applied to its arguments

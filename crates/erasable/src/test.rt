@@ -8,6 +8,7 @@ ghost use Rattle.pc_rules.specs.DirectedTyping.{infer};
 ghost use Rattle.calculus_rules.specs.Lookups.{family_of};
 ghost use Rattle.pc_rules.specs.DirectedErasable.{type_test, match_test, erasable_test};
 ghost use Rattle.pc_rules.specs.WellCounted.{IsCounted, IsCountedContext, IsCountedEnv};
+ghost use Rattle.pc_rules.specs.DirectedRun.{most_nested};
 ghost use Rattle.known_types.specs.Located.{IsOf};
 ghost use Rattle.rule_laws.specs.Erasability.{HasEvidence};
 ghost use Rattle.calculus_rules.specs.declared.evidence.Evidence.{Evidence};
@@ -45,7 +46,7 @@ fn type_test<T: SiteTyper, R: Reducer>(
     requires env { IsCountedEnv env.now }
     requires ctx { IsCountedContext env.now ctx.now }
     requires site { IsOf site.now env.now ctx.now }
-    ensures follows { Follows (type_test env.now (infer env.now (test_of env.now) (2048 - m.old.nest)) ctx.now t.now m.old.account) result m.old m.new }
+    ensures follows { Follows (type_test env.now (infer env.now (test_of env.now) (most_nested - m.old.nest)) ctx.now t.now m.old.account) result m.old m.new }
 {
     let ty = typer.infer_in(alloc, env, ctx, site, t, m)?;
     let is_arity = ends_in_sort(alloc, reducer, env, ctx, &ty, m)?;
@@ -76,7 +77,7 @@ fn match_test<T: SiteTyper, R: Reducer>(
     requires site { IsOf site.now env.now ctx.now }
     requires same { t.now ≡ tree_of (Case x.now) }
     requires counted { IsCounted env.now t.now }
-    ensures follows { Follows (match_test env.now (infer env.now (test_of env.now) (2048 - m.old.nest)) ctx.now t.now x.now.family x.now.params x.now.ret (family_of env.now x.now.family) m.old.account) result m.old m.new }
+    ensures follows { Follows (match_test env.now (infer env.now (test_of env.now) (most_nested - m.old.nest)) ctx.now t.now x.now.family x.now.params x.now.ret (family_of env.now x.now.family) m.old.account) result m.old m.new }
 {
     let Some(family) = kept_family(env, x.family) else {
         return type_test(alloc, typer, reducer, env, ctx, site, t, m);
@@ -106,7 +107,7 @@ fn former_test<T: SiteTyper, R: Reducer>(
     requires ctx { IsCountedContext env.now ctx.now }
     requires site { IsOf site.now env.now ctx.now }
     requires counted { IsCounted env.now t.now }
-    ensures follows { Follows (erasable_test env.now (infer env.now (test_of env.now) (2048 - m.old.nest)) ctx.now t.now m.old.account) result m.old m.new }
+    ensures follows { Follows (erasable_test env.now (infer env.now (test_of env.now) (most_nested - m.old.nest)) ctx.now t.now m.old.account) result m.old m.new }
 {
     match t.view() {
         Node::Construct(id, number) => {
@@ -135,7 +136,7 @@ pub fn test_in<T: SiteTyper, R: Reducer>(
     requires ctx { IsCountedContext env.now ctx.now }
     requires site { IsOf site.now env.now ctx.now }
     requires counted { IsCounted env.now t.now }
-    ensures follows { Follows (erasable_test env.now (infer env.now (test_of env.now) (2048 - m.old.nest)) ctx.now t.now m.old.account) result m.old m.new }
+    ensures follows { Follows (erasable_test env.now (infer env.now (test_of env.now) (most_nested - m.old.nest)) ctx.now t.now m.old.account) result m.old m.new }
     ensures evidence { IfOk result (λ o. (e : Evidence) → o ≡ Some e → HasEvidence env.now ctx.now t.now e) }
 {
     // A graph is there only where its constraints are consistent.
@@ -158,7 +159,7 @@ pub fn test<T: Typer, R: Reducer>(
     requires env { IsCountedEnv env.now }
     requires ctx { IsCountedContext env.now ctx.now }
     requires counted { IsCounted env.now t.now }
-    ensures follows { Follows (erasable_test env.now (infer env.now (test_of env.now) (2048 - m.old.nest)) ctx.now t.now m.old.account) result m.old m.new }
+    ensures follows { Follows (erasable_test env.now (infer env.now (test_of env.now) (most_nested - m.old.nest)) ctx.now t.now m.old.account) result m.old m.new }
     ensures evidence { IfOk result (λ o. (e : Evidence) → o ≡ Some e → HasEvidence env.now ctx.now t.now e) }
 {
     test_in(

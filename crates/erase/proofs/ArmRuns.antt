@@ -8,7 +8,7 @@ use Rattle.pc_terms.specs.declared.term.MakeFault.{MakeFault}
 use Rattle.pc_terms.specs.declared.term.MakeFault.TheVariants.{TooDeep as DeepTerm, Memory as NoTerm}
 use Rattle.pc_terms.specs.Lists.{arms_of}
 use Rattle.pc_terms.specs.Formed.{EachTerm}
-use Rattle.pc_terms.specs.Syntax.{Term, Case}
+use Rattle.pc_terms.specs.Syntax.{Term, Case, list_of}
 use Rattle.box_terms.specs.BoxSyntax.{BoxTerm, BoxTerms, BCase}
 use Rattle.calculus_rules.specs.declared.declaration.Constructor.{Constructor}
 use Rattle.pc_rules.specs.declared.broken.Broken.TheVariants.{UnknownName}
@@ -24,7 +24,6 @@ use Rattle.pc_rules.specs.Stops.{stop_of}
 use Rattle.pc_rules.specs.Follows.{Follows}
 use Rattle.pc_rules.specs.DirectedRun.{Run, done, passing, any_beyond, bind, Leaves}
 use Rattle.calculus_rules.specs.Lookups.{family_of}
-use Rattle.calculus_rules.specs.Listed.{list_of}
 use Rattle.pc_rules.specs.DirectedTyping.{Typing}
 use Rattle.pc_rules.specs.WellCounted.{IsCountedNode, IsCounted, AreCounted, AreCountedConstructors, IsCountedContext, HasCountedDeclarations}
 use Rattle.pc_rules.proofs.Fair.{leaves_bind, same_left}
@@ -32,7 +31,7 @@ use Rattle.pc_rules.proofs.FairTyping.{FairTyping}
 use Rattle.pc_rules.proofs.Following.{follows_bind, follows_err, follows_done, follows_memory, follows_deep, follows_passing, follows_refused}
 use Rattle.pc_rules.proofs.ListSteps.{next_is, none_left, min_either}
 use Rattle.pc_rules.proofs.WeakNext.{family_found}
-use Rattle.pc_rules.proofs.SameWithin.{bind_assoc}
+use Rattle.pc_rules.proofs.Leading.{bind_assoc}
 use Rattle.rule_laws.proofs.KeepCounts.{kept_counted}
 use Rattle.rule_laws.proofs.CountedParts.{branch_entries_counted, context_extended}
 use Rattle.box_terms.specs.declared.term.BoxBranch.{BoxBranch}
@@ -98,7 +97,7 @@ module _ (E : Env) {inf : Typing} (fair : FairTyping 0 0 inf) (c : Context) (ps 
 
     first_arm : (m : Meter) → bind (under_entries E inf c (branch_entries C ps) b.body m.account) then_rest ≡ arms_erased (C ∷ Cs) (b ∷ bs) m.account
     unfolding then_rest
-    first_arm m = bind_assoc (λ _ v. erased E inf (extend c (branch_entries C ps)) b.body v) then_rest (passing (any_beyond (branch_entries C ps)) m.account)
+    first_arm m = bind_assoc (passing (any_beyond (branch_entries C ps)) m.account) (λ _ v. erased E inf (extend c (branch_entries C ps)) b.body v) then_rest
 
     arm_stops : (h : Halt) (m0 m1 : Meter) → Follows (under_entries E inf c (branch_entries C ps) b.body m0.account) (Err h) m0 m1 → Follows (arms_erased (C ∷ Cs) (b ∷ bs) m0.account) (Err h) m0 m1
     arm_stops h m0 m1 f =

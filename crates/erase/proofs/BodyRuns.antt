@@ -7,7 +7,7 @@ use Rattle.pc_terms.specs.declared.term.MakeFault.{MakeFault}
 use Rattle.pc_terms.specs.declared.term.MakeFault.TheVariants.{TooDeep as DeepTerm, Memory as NoTerm}
 use Rattle.pc_terms.specs.Lists.{types_of, bodies_of, rargs_of}
 use Rattle.pc_terms.specs.Formed.{EachTerm}
-use Rattle.pc_terms.specs.Syntax.{Term, Terms, Fix, shift}
+use Rattle.pc_terms.specs.Syntax.{Term, Terms, Fix, shift, list_of}
 use Rattle.box_terms.specs.BoxSyntax.{BoxTerm, BoxTerms, BFix}
 use Rattle.pc_terms.proofs.Parts.{rargs_length}
 use Rattle.calculus_rules.specs.declared.entry.Entry.TheVariants.{Assumed}
@@ -22,7 +22,6 @@ use Rattle.calculus_rules.specs.Instances.{definitions}
 use Rattle.pc_rules.specs.Stops.{stop_of}
 use Rattle.pc_rules.specs.Follows.{Follows}
 use Rattle.pc_rules.specs.DirectedRun.{Run, done, passing, any_beyond, bind, Leaves}
-use Rattle.calculus_rules.specs.Listed.{list_of}
 use Rattle.pc_rules.specs.DirectedComparison.{lifted_types}
 use Rattle.pc_rules.specs.DirectedTyping.{Typing}
 use Rattle.pc_rules.specs.WellCounted.{IsCountedNode, IsCounted, IsCountedContext}

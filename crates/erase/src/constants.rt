@@ -5,6 +5,7 @@ ghost use Rattle.pc_rules.specs.DirectedTyping.{infer};
 ghost use Rattle.pc_rules.specs.Follows.{Follows};
 ghost use Rattle.pc_rules.specs.WellCounted.{IsCounted, IsCountedEnv};
 ghost use Rattle.pc_rules.specs.declared.stop.Stop.TheVariants.{Memory};
+ghost use Rattle.pc_rules.specs.DirectedRun.{most_nested};
 ghost use Rattle.erase_rules.specs.DirectedErasure.{erased};
 ghost use Rattle.erase_rules.specs.DirectedProgram.{erased_constants};
 ghost use Rattle.erase.specs.AtPlaces.{FollowsAt, halted_at};
@@ -65,7 +66,7 @@ pub(crate) fn erased_at<T: SiteTyper + Drop, R: Reducer + Drop>(
     t: &Term,
     m: &mut Meter,
 ) -> Result<BoxTerm, HaltAt>
-    requires nest { room + m.old.nest ≡ 2048 }
+    requires nest { room + m.old.nest ≡ most_nested }
     requires env { IsCountedEnv env.now }
     requires counted { IsCounted env.now t.now }
     ensures follows { Follows (erased env.now (infer env.now (test_of env.now) room) [] t.now m.old.account) (halted_at result) m.old m.new }
@@ -90,7 +91,7 @@ pub(crate) fn reach_constants<T: SiteTyper + Drop, R: Reducer + Drop>(
     main: &BoxTerm,
     m: &mut Meter,
 ) -> Result<Reached, HaltAt>
-    requires nest { room + m.old.nest ≡ 2048 }
+    requires nest { room + m.old.nest ≡ most_nested }
     requires env { IsCountedEnv env.now }
     ensures follows { FollowsAt (erased_constants env.now (infer env.now (test_of env.now) room) (main.now ∷ []) env.now.declarations m.old.account) (reached_in result) m.old m.new }
     ensures halted { IfErr result (λ x. HaltsIn (IsAtBody env.now (infer env.now (test_of env.now) room) (main.now ∷ []) env.now.declarations m.old.account) x.place x.halt m.new.account) }

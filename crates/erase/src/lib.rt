@@ -3,8 +3,8 @@
 //! `program::erase` gives exactly what directed erasure gives (`follows`): the program whole, the first declared constant without a body that
 //! is reached, or what halts it, with what is left of units and uses of rules; and a halt has the place of what is being erased (`halted`).
 //! A program is erased from its environment by the erasure relation (`erased`, `sources`), has the form of box programs (`form`), has no more
-//! nodes than main and the bodies together (`fewer_nodes`) and no term that is deeper than its source (`no_deeper`), and keeps the value of a
-//! lawful evaluation (`value`); a named axiom has no body (`axiom`). `refusal::EraseRefusal` says why there is no program.
+//! nodes than main and the bodies together (`fewer_nodes`) and no term that is deeper than its source (`no_deeper`), and keeps the value of an
+//! evaluation of first-order type (`value`); a named axiom has no body (`axiom`). `refusal::EraseRefusal` says why there is no program.
 //!
 //! The code is in layers: terms of box that are made within the limits (`making`), erasure of a term (`terms`), the set of the names that
 //! erased terms name (`names`), the walk over declarations (`constants`), the counts of families (`families`), and the whole (`program`).

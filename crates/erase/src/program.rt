@@ -8,6 +8,7 @@ ghost use Rattle.calculus_rules.specs.Environment.{KeepsConstant};
 ghost use Rattle.calculus_rules.specs.Typing.{Types, guarded};
 ghost use Rattle.pc_rules.specs.Entailment.{test_of};
 ghost use Rattle.pc_rules.specs.DirectedTyping.{infer};
+ghost use Rattle.pc_rules.specs.DirectedRun.{most_nested};
 ghost use Rattle.lambda_box.specs.BoxForm.{IsBoxProgram};
 ghost use Rattle.erase_laws.specs.ErasedProgram.{HasErased, IsErased};
 ghost use Rattle.erase_rules.specs.DirectedProgram.{erased_program};
@@ -52,8 +53,8 @@ pub fn erase<T: Typer, R: Reducer>(
     requires accepted { IsAccepted acc.now.env }
     requires typed { Types guarded acc.now.env [] acc.now.main acc.now.main_type }
     requires few { AreFewCounts acc.now.env }
-    ensures follows { FollowsAt (erased_program acc.now.env (test_of acc.now.env) (2048 - m.old.nest) acc.now.main m.old.account) (answered result) m.old m.new }
-    ensures halted { IfErr result (λ e. HaltsAtPlace acc.now.env (infer acc.now.env (test_of acc.now.env) (2048 - m.old.nest)) acc.now.main m.old.account e m.new.account) }
+    ensures follows { FollowsAt (erased_program acc.now.env (test_of acc.now.env) (most_nested - m.old.nest) acc.now.main m.old.account) (answered result) m.old m.new }
+    ensures halted { IfErr result (λ e. HaltsAtPlace acc.now.env (infer acc.now.env (test_of acc.now.env) (most_nested - m.old.nest)) acc.now.main m.old.account e m.new.account) }
     ensures erased { IfOk result (IsErased acc.now.env acc.now.main) }
     ensures sources { IfOk result (HasErased acc.now.env) }
     ensures form { IfOk result IsBoxProgram }
@@ -76,8 +77,8 @@ pub fn erase_at_sites<T: SiteTyper, R: Reducer>(
     requires accepted { IsAccepted acc.now.env }
     requires typed { Types guarded acc.now.env [] acc.now.main acc.now.main_type }
     requires few { AreFewCounts acc.now.env }
-    ensures follows { FollowsAt (erased_program acc.now.env (test_of acc.now.env) (2048 - m.old.nest) acc.now.main m.old.account) (answered result) m.old m.new }
-    ensures halted { IfErr result (λ e. HaltsAtPlace acc.now.env (infer acc.now.env (test_of acc.now.env) (2048 - m.old.nest)) acc.now.main m.old.account e m.new.account) }
+    ensures follows { FollowsAt (erased_program acc.now.env (test_of acc.now.env) (most_nested - m.old.nest) acc.now.main m.old.account) (answered result) m.old m.new }
+    ensures halted { IfErr result (λ e. HaltsAtPlace acc.now.env (infer acc.now.env (test_of acc.now.env) (most_nested - m.old.nest)) acc.now.main m.old.account e m.new.account) }
     ensures erased { IfOk result (IsErased acc.now.env acc.now.main) }
     ensures sources { IfOk result (HasErased acc.now.env) }
     ensures form { IfOk result IsBoxProgram }

@@ -7,6 +7,7 @@ ghost use Rattle.pc_rules.specs.Follows.{Follows};
 ghost use Rattle.pc_rules.specs.DirectedTyping.{infer};
 ghost use Rattle.pc_rules.specs.DirectedErasable.{erasable_test};
 ghost use Rattle.pc_rules.specs.WellCounted.{IsCounted, IsCountedContext, IsCountedEnv};
+ghost use Rattle.pc_rules.specs.DirectedRun.{most_nested};
 ghost use Rattle.known_types.specs.Located.{IsOf};
 ghost use Rattle.erase_rules.specs.DirectedErasure.{erased, kept, kept_branches, kept_bodies};
 ghost use Rattle.erase.specs.Arms.{arms_in, bodies_in, under_entries};
@@ -63,7 +64,7 @@ impl<T: SiteTyper + Drop, R: Reducer + Drop> Eraser<T, R> {
         t: &Term,
         m: &mut Meter,
     ) -> Result<Option<Evidence>, Halt>
-        requires nest { room + m.old.nest ≡ 2048 }
+        requires nest { room + m.old.nest ≡ most_nested }
         requires env { IsCountedEnv env.now }
         requires ctx { IsCountedContext env.now ctx.now }
         requires site { IsOf site.now env.now ctx.now }
@@ -85,7 +86,7 @@ impl<T: SiteTyper + Drop, R: Reducer + Drop> Eraser<T, R> {
         t: &Term,
         m: &mut Meter,
     ) -> Result<BoxTerm, Halt>
-        requires nest { room + m.old.nest ≡ 2048 }
+        requires nest { room + m.old.nest ≡ most_nested }
         requires env { IsCountedEnv env.now }
         requires ctx { IsCountedContext env.now ctx.now }
         requires site { IsOf site.now env.now ctx.now }
@@ -111,7 +112,7 @@ impl<T: SiteTyper + Drop, R: Reducer + Drop> Eraser<T, R> {
         t: &Term,
         m: &mut Meter,
     ) -> Result<BoxTerm, Halt>
-        requires nest { room + m.old.nest ≡ 2048 }
+        requires nest { room + m.old.nest ≡ most_nested }
         requires env { IsCountedEnv env.now }
         requires ctx { IsCountedContext env.now ctx.now }
         requires site { IsOf site.now env.now ctx.now }
@@ -149,7 +150,7 @@ impl<T: SiteTyper + Drop, R: Reducer + Drop> Eraser<T, R> {
         body: &Term,
         m: &mut Meter,
     ) -> Result<BoxTerm, Halt>
-        requires nest { room + m.old.nest ≡ 2048 }
+        requires nest { room + m.old.nest ≡ most_nested }
         requires env { IsCountedEnv env.now }
         requires ctx { IsCountedContext env.now ctx.now }
         requires site { IsOf site.now env.now ctx.now }
@@ -178,7 +179,7 @@ impl<T: SiteTyper + Drop, R: Reducer + Drop> Eraser<T, R> {
         body: &Term,
         m: &mut Meter,
     ) -> Result<BoxTerm, Halt>
-        requires nest { room + m.old.nest ≡ 2048 }
+        requires nest { room + m.old.nest ≡ most_nested }
         requires env { IsCountedEnv env.now }
         requires ctx { IsCountedContext env.now ctx.now }
         requires site { IsOf site.now env.now ctx.now }
@@ -208,7 +209,7 @@ impl<T: SiteTyper + Drop, R: Reducer + Drop> Eraser<T, R> {
         argument: &Term,
         m: &mut Meter,
     ) -> Result<BoxTerm, Halt>
-        requires nest { room + m.old.nest ≡ 2048 }
+        requires nest { room + m.old.nest ≡ most_nested }
         requires env { IsCountedEnv env.now }
         requires ctx { IsCountedContext env.now ctx.now }
         requires site { IsOf site.now env.now ctx.now }
@@ -233,7 +234,7 @@ impl<T: SiteTyper + Drop, R: Reducer + Drop> Eraser<T, R> {
         x: &Match,
         m: &mut Meter,
     ) -> Result<BoxTerm, Halt>
-        requires nest { room + m.old.nest ≡ 2048 }
+        requires nest { room + m.old.nest ≡ most_nested }
         requires env { IsCountedEnv env.now }
         requires ctx { IsCountedContext env.now ctx.now }
         requires site { IsOf site.now env.now ctx.now }
@@ -264,7 +265,7 @@ impl<T: SiteTyper + Drop, R: Reducer + Drop> Eraser<T, R> {
         x: &Match,
         m: &mut Meter,
     ) -> Result<BoxBranches, Halt>
-        requires nest { room + m.old.nest ≡ 2048 }
+        requires nest { room + m.old.nest ≡ most_nested }
         requires env { IsCountedEnv env.now }
         requires ctx { IsCountedContext env.now ctx.now }
         requires site { IsOf site.now env.now ctx.now }
@@ -301,7 +302,7 @@ impl<T: SiteTyper + Drop, R: Reducer + Drop> Eraser<T, R> {
         body: &Term,
         m: &mut Meter,
     ) -> Result<BoxTerm, Halt>
-        requires nest { room + m.old.nest ≡ 2048 }
+        requires nest { room + m.old.nest ≡ most_nested }
         requires env { IsCountedEnv env.now }
         requires ctx { IsCountedContext env.now ctx.now }
         requires site { IsOf site.now env.now ctx.now }
@@ -329,7 +330,7 @@ impl<T: SiteTyper + Drop, R: Reducer + Drop> Eraser<T, R> {
         i: u32,
         m: &mut Meter,
     ) -> Result<BoxTerm, Halt>
-        requires nest { room + m.old.nest ≡ 2048 }
+        requires nest { room + m.old.nest ≡ most_nested }
         requires env { IsCountedEnv env.now }
         requires ctx { IsCountedContext env.now ctx.now }
         requires site { IsOf site.now env.now ctx.now }
@@ -356,7 +357,7 @@ impl<T: SiteTyper + Drop, R: Reducer + Drop> Eraser<T, R> {
         defs: &Defs,
         m: &mut Meter,
     ) -> Result<BoxDefs, Halt>
-        requires nest { room + m.old.nest ≡ 2048 }
+        requires nest { room + m.old.nest ≡ most_nested }
         requires env { IsCountedEnv env.now }
         requires ctx { IsCountedContext env.now ctx.now }
         requires site { IsOf site.now env.now ctx.now }

@@ -199,6 +199,6 @@ erased_programs_have_form E accepted main T typed P h = (
         }
 
 pub erased_programs_keep_values : ErasedProgramsKeepValues
-erased_programs_keep_values E accepted t T typed P h v n e lawful S first =
+erased_programs_keep_values E accepted t T typed P h v n e S first =
     let (form, erased) = erased_programs_have_form E accepted t T typed P h in
-    values_are_kept E accepted P form erased t v T n typed e lawful h.main S first
+    values_are_kept E accepted P form erased t v T n typed e h.main S first

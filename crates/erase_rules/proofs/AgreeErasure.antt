@@ -1,7 +1,7 @@
 -- Directed erasure agrees with itself, whatever the units and the room.
 use Rattle.std.proofs.Common.{ℕ, Bool, true, false, if◌then◌else◌, List, [], ◌∷◌, length, Option, Some, None}
 use Rattle.pc_terms.specs.declared.leaf.FamilyId.{FamilyId}
-use Rattle.pc_terms.specs.Syntax.{Term, Terms, Next, Rel, Lambda, LetIn, App, Const, Construct, Case, Fix}
+use Rattle.pc_terms.specs.Syntax.{Term, Terms, Next, Rel, Lambda, LetIn, App, Const, Construct, Case, Fix, list_of}
 use Rattle.pc_terms.specs.Syntax as syntax
 use Rattle.box_terms.specs.BoxSyntax.{BoxTerm, BoxTerms, Box, BLambda, BLetIn, BApp, BConst, BConstruct, BCase, BFix}
 use Rattle.calculus_rules.specs.declared.declaration.Constructor.{Constructor}
@@ -17,7 +17,6 @@ use Rattle.calculus_rules.specs.Context.{Context, extend}
 use Rattle.calculus_rules.specs.Instances.{branch_entries, definitions}
 use Rattle.pc_rules.specs.DirectedRun.{Run, any_beyond}
 use Rattle.calculus_rules.specs.Lookups.{family_of}
-use Rattle.calculus_rules.specs.Listed.{list_of}
 use Rattle.pc_rules.specs.DirectedComparison.{Test, lifted_types}
 use Rattle.pc_rules.specs.DirectedTyping.{Typing, infer}
 use Rattle.agreeing.specs.Agreement.{AgreeAtPlaces}

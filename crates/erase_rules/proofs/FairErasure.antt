@@ -1,7 +1,7 @@
 -- Directed erasure never goes back on units, and more units change no result.
 use Rattle.std.proofs.Common.{ℕ, List, [], ◌∷◌, Option, Some, None}
 use Rattle.pc_terms.specs.declared.leaf.FamilyId.{FamilyId}
-use Rattle.pc_terms.specs.Syntax.{Term, Terms, Next, Rel, Lambda, LetIn, App, Const, Construct, Case, Fix}
+use Rattle.pc_terms.specs.Syntax.{Term, Terms, Next, Rel, Lambda, LetIn, App, Const, Construct, Case, Fix, list_of}
 use Rattle.pc_terms.specs.Syntax as syntax
 use Rattle.box_terms.specs.BoxSyntax.{BoxTerm, BoxTerms, Box, BLambda, BLetIn, BApp, BConst, BConstruct, BCase, BFix}
 use Rattle.calculus_rules.specs.declared.declaration.Constructor.{Constructor}
@@ -14,7 +14,6 @@ use Rattle.calculus_rules.specs.Instances.{branch_entries, definitions}
 use Rattle.calculus_rules.specs.declared.evidence.Evidence.{Evidence}
 use Rattle.pc_rules.specs.DirectedRun.{Run, any_beyond, Leaves}
 use Rattle.calculus_rules.specs.Lookups.{family_of}
-use Rattle.calculus_rules.specs.Listed.{list_of}
 use Rattle.pc_rules.specs.DirectedComparison.{lifted_types}
 use Rattle.pc_rules.specs.DirectedTyping.{Typing}
 use Rattle.pc_rules.proofs.Fair.{IsFair, same_left, fair_done, fair_refused, fair_passing, fair_bind}

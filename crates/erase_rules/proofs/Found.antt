@@ -1,11 +1,12 @@
 -- What the test of erasable terms says where it finds no evidence.
 use Rattle.std.proofs.Common.{◌≡◌, ◌≢◌, ℕ, zero, suc, inl, inr, Bool, true, false, if◌then◌else◌, List, [], ◌∷◌, Option, Some, None, slice_get, refl, sym, ap, ◌∙◌, subst}
+use Rattle.std.proofs.lemmas.Bool.{true≢false}
 use Rattle.universe_levels.specs.declared.level.LevelExpr.{LevelExpr}
 use Rattle.universe_levels.specs.declared.sort.Sort.{Sort}
 use Rattle.universe_levels.specs.declared.sort.Sort.TheVariants.{Prop, Of}
 use Rattle.universe_levels.specs.Sorts.{super_sort, product_sort}
 use Rattle.pc_terms.specs.declared.leaf.FamilyId.{FamilyId}
-use Rattle.pc_terms.specs.Syntax.{Term, Terms, Rel, SortT, Prod, Ind, Construct, Case}
+use Rattle.pc_terms.specs.Syntax.{Term, Terms, Rel, SortT, Prod, Ind, Construct, Case, list_of}
 use Rattle.calculus_rules.specs.declared.declaration.Constructor.{Constructor}
 use Rattle.calculus_rules.specs.declared.declaration.Block.{Block}
 use Rattle.calculus_rules.specs.declared.evidence.Evidence.{Evidence}
@@ -20,7 +21,6 @@ use Rattle.pc_rules.specs.DirectedRun as run
 use Rattle.pc_rules.specs.DirectedRun.{Run, done, make, made, no_unit, any_beyond, bind, noted, ticked, too_nested}
 use Rattle.calculus_rules.specs.Lookups.{kept_at, known_block, whole_block, family_of}
 use Rattle.pc_rules.specs.DirectedWeakHead.{weak_next}
-use Rattle.calculus_rules.specs.Listed.{list_of}
 use Rattle.pc_rules.specs.DirectedComparison.{Test, Comparison, compare}
 use Rattle.pc_rules.specs.DirectedTyping.{Typing, rule, rule_number, infer, sort_of, sorts_of, levels_declared, undeclared_in, raises_past, find_family, constructor_number, match_counted, check_all, eliminated, predicate_rule, scrutinee_rule, branches_rule}
 use Rattle.pc_rules.specs.DirectedErasable.{TypeEnding, ending_on, end_of, ends_in_sort, arity_found, type_test, numbered_test, constructor_test, match_sort, match_test}
@@ -28,9 +28,8 @@ use Rattle.calculus_rules.specs.PropSorts.{is_prop}
 use Rattle.pc_rules.proofs.WeakNext.{none_some}
 use Rattle.calculus_rules.proofs.Spines.{one_item}
 use Rattle.rule_laws.proofs.Runs.{bind_both, ticking_done, nested_done, done_value, pass_then}
-use Rattle.rule_laws.proofs.SimpleRules.{whole_family, some_none, constructor_is as constructor_there}
+use Rattle.rule_laws.proofs.SimpleRules.{whole_family, constructor_is as constructor_there}
 use Rattle.rule_laws.proofs.MatchRule.{eliminated_is}
-use Rattle.rule_laws.proofs.Positive.{none_true as true_false}
 use Rattle.agreeing.proofs.Unique.{one_result}
 use Rattle.agreeing.proofs.AgreeTyping.{agree_sort_of, agree_infer}
 
@@ -45,7 +44,7 @@ may_erase E f F s far (inr (inr p)) = inr p
 -- products that end in a sort
 
 some_is_none : {A : Type 0} {k : Evidence} {v w : Account} → run.Done (Some k) v ≡ run.Done None w → A
-some_is_none h = absurd (some_none (done_value h))
+some_is_none h = absurd (none_some (sym (done_value h)))
 
 module _ (E : Env) where
   -- a type whose end is found to be a sort, at once
@@ -86,7 +85,7 @@ module _ (E : Env) where
       no_arity inf c t p1.0 p2.0 u p1.1 p2.1 p2.1 v p1.2 p2.2 p2.3
 
   ends_both : (m : ℕ) (c : Context) (T S : Term) (u v : Account) → S ≡ T → EndsAtOnce S → (ends_in_sort E m c T u).end ≡ run.Done false v → ⊥
-  ends_both m c T S u v e a h = true_false (done_value (sym (ends_true m c T u (subst EndsAtOnce e a)) ∙ h))
+  ends_both m c T S u v e a h = true≢false (done_value (sym (ends_true m c T u (subst EndsAtOnce e a)) ∙ h))
 
   module _ (q : Test) where
     ruled : (n : ℕ) (c : Context) (t T : Term) (u v : Account) → (infer E q n c t u).end ≡ run.Done T v →

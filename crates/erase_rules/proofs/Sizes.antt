@@ -4,7 +4,7 @@ use Rattle.trees.specs.Measures.{depth, depth_trees, nodes, nodes_trees, above, 
 use Rattle.trees.specs.Closed.{Closed, ClosedTerms}
 use Rattle.pc_terms.specs.declared.leaf.Name.{Name}
 use Rattle.pc_terms.specs.declared.leaf.FamilyId.{FamilyId}
-use Rattle.pc_terms.specs.Syntax.{Term, Terms, Next, Rel, Node, SortT, Prod, Lambda, LetIn, App, Const, Ind, Construct, Case, Fix}
+use Rattle.pc_terms.specs.Syntax.{Term, Terms, Next, Rel, Node, SortT, Prod, Lambda, LetIn, App, Const, Ind, Construct, Case, Fix, list_of}
 use Rattle.pc_terms.specs.Syntax as syntax
 use Rattle.box_terms.specs.BoxSyntax.{BoxTerm, BoxTerms, Box, BLambda, BLetIn, BApp, BConst, BConstruct, BCase, BFix}
 use Rattle.calculus_rules.specs.declared.declaration.Constructor.{Constructor}
@@ -17,7 +17,6 @@ use Rattle.calculus_rules.specs.declared.evidence.Evidence.{Evidence}
 use Rattle.pc_rules.specs.DirectedRun as run
 use Rattle.pc_rules.specs.DirectedRun.{Run, done, any_beyond, bind}
 use Rattle.calculus_rules.specs.Lookups.{family_of}
-use Rattle.calculus_rules.specs.Listed.{list_of}
 use Rattle.pc_rules.specs.DirectedComparison.{lifted_types}
 use Rattle.pc_rules.specs.DirectedTyping.{Typing}
 use Rattle.pc_rules.specs.DirectedErasable.{erasable_test}

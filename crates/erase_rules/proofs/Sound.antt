@@ -1,6 +1,6 @@
 -- What directed erasure gives is an erasure.
 use Rattle.std.proofs.Common.{◌≡◌, ℕ, suc, List, [], ◌∷◌, length, Option, Some, None, refl, sym, ◌∙◌, subst}
-use Rattle.pc_terms.specs.Syntax.{Term, Terms, Next, Rel, SortT, Prod, Lambda, LetIn, App, Const, Ind, Construct, Case, Fix, shift, terms_of}
+use Rattle.pc_terms.specs.Syntax.{Term, Terms, Next, Rel, SortT, Prod, Lambda, LetIn, App, Const, Ind, Construct, Case, Fix, shift, terms_of, list_of}
 use Rattle.pc_terms.specs.Syntax as syntax
 use Rattle.pc_terms.specs.Formed.{binders_of, EachTerm, AreAll}
 use Rattle.box_terms.specs.BoxSyntax.{BoxTerm, BoxTerms, BLambda, BLetIn, BApp, BCase, BFix}
@@ -14,7 +14,6 @@ use Rattle.calculus_rules.specs.declared.evidence.Evidence.{Evidence}
 use Rattle.pc_rules.specs.DirectedRun as run
 use Rattle.pc_rules.specs.DirectedRun.{Run, done, any_beyond, bind}
 use Rattle.calculus_rules.specs.Lookups.{family_of}
-use Rattle.calculus_rules.specs.Listed.{list_of}
 use Rattle.pc_rules.specs.DirectedComparison.{Test, IsTest, lifted_types}
 use Rattle.pc_rules.specs.DirectedTyping.{infer}
 use Rattle.pc_rules.specs.DirectedErasable.{erasable_test}
@@ -24,7 +23,8 @@ use Rattle.rule_laws.proofs.Runs.{bind_both, done_value, pass_then}
 use Rattle.rule_laws.proofs.Counted.{list_counted, shifted_counted}
 use Rattle.rule_laws.proofs.KeepCounts.{kept_counted}
 use Rattle.rule_laws.proofs.CountedParts.{branch_entries_counted, context_extended}
-use Rattle.rule_laws.proofs.Comparing.{names_long, list_long, first_same, rest_same, no_cons}
+use Rattle.calculus_rules.proofs.Listing.{first_same, rest_same}
+use Rattle.rule_laws.proofs.Comparing.{names_long, list_long, no_cons}
 use Rattle.rule_laws.proofs.MatchRule.{terms_are}
 use Rattle.rule_laws.proofs.Inferring.{infer_sound}
 use Rattle.rule_laws.proofs.Evidence.{evidence_sound}

@@ -25,8 +25,7 @@ use Rattle.pc_rules.specs.DirectedPlaces.{Outcome, Gives, Breaks, Spends, Nests,
 use Rattle.pc_rules.specs.DirectedDeclarations.{Given, Accepts, environment_rule}
 use Rattle.calculus_rules.specs.Elimination.{MayErase}
 use Rattle.calculus_rules.specs.Evaluation.{Evaluates}
-use Rattle.calculus_rules.specs.FirstOrder.{Shape, IsFirstOrder, Reads, FitsShapes}
-use Rattle.calculus_rules.specs.Lawful.{IsLawfulEvaluation}
+use Rattle.calculus_rules.specs.FirstOrder.{Shape, Data, IsFirstOrder, Reads, FitsShapes}
 use Rattle.rule_laws.specs.Declarations.{AllGivenFormed}
 use Rattle.lambda_box.specs.BoxEvaluation.{BoxEvaluates}
 use Rattle.lambda_box.specs.BoxData.{BoxReads}
@@ -88,12 +87,12 @@ CheckedProgramsHaveForm = (levels : List Level) (cs : List Constraint) (cycle : 
     (m n : ℕ) (ds : List Given) (main T : Term) (E : Env) (u v : Account) → AllGivenFormed ds → IsFormed main → (environment_rule levels cs cycle q m ds main u).outcome ≡ Accepts E T v →
     AreFewCounts E → (P : BoxProgram) (x y : Account) → (erased_program E q n main x).outcome ≡ Gives (Program P) y → IsErased E main P × IsBoxProgram P × HasErased E P
 
--- and where main evaluates lawfully to data, the program evaluates to that data, in no more nodes
+-- and where main, of a first-order type, evaluates, its value is data, and the program evaluates to that data, in no more nodes
 abbrev pub ProgramsKeepValues : Type 0
 ProgramsKeepValues = (E : Env) → IsAccepted E → AreFewCounts E → (q : Test) → IsTest E.levels E.constraints q → (n : ℕ) (main T : Term) → Types guarded E [] main T →
-    (P : BoxProgram) (x y : Account) → (erased_program E q n main x).outcome ≡ Gives (Program P) y → (v : Term) (k : ℕ) (e : Evaluates E main v k) → (h : IsLawfulEvaluation E T e) →
+    (P : BoxProgram) (x y : Account) → (erased_program E q n main x).outcome ≡ Gives (Program P) y → (v : Term) (k : ℕ) → Evaluates E main v k →
     (S : List Shape) → IsFirstOrder E T S →
-    (w : BoxTerm) × (i : ℕ) × (j : ℕ) × (i ≤ k) × BoxEvaluates P P.main w i j × Reads E S 0 v h.main.answer × BoxReads P w h.main.answer × FitsShapes S 0 h.main.answer
+    (d : Data) × (w : BoxTerm) × (i : ℕ) × (j : ℕ) × (i ≤ k) × BoxEvaluates P P.main w i j × Reads E S 0 v d × BoxReads P w d × FitsShapes S 0 d
 
 -- a program has at most as many nodes as main and the bodies of constants
 abbrev pub ProgramsAreNoGreater : Type 0

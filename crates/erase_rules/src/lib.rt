@@ -55,7 +55,7 @@ pub fn directed_programs_are_erased()
     ensures axioms { AxiomsHaveNoBody }
 {}
 
-/// It evaluates to the data that the source evaluates to lawfully, in no more nodes.
+/// It evaluates to the data that the source evaluates to, in no more nodes.
 pub fn directed_programs_keep_values()
     ensures values { ProgramsKeepValues }
 {}

@@ -16,11 +16,10 @@ use Rattle.pc_rules.specs.Leads.{Leads}
 use Rattle.pc_rules.proofs.Fair.{leaves_bind, same_left}
 use Rattle.pc_rules.proofs.FairSearch.{on_found_leaves}
 use Rattle.pc_rules.proofs.Following.{bind_end, bind_deep, bind_done, leads_leave, follows_bind, follows_err, follows_done}
-use Rattle.pc_rules.proofs.SameWithin.{bind_assoc}
 use Rattle.first_order.specs.declared.faults.ShapeRefusal.{ShapeRefusal}
 use Rattle.first_order.specs.declared.faults.ShapeRefusal.TheVariants.{NotFirstOrder as Without, Types as ManyTypes, Spent as NoUnits, TooDeep as Deep, Memory as NoMemory}
 use Rattle.first_order.specs.Searching.{searched, refusal_of}
-use Rattle.pc_rules.proofs.Leading.{bind_unit, leads_start, leads_along, follows_leads}
+use Rattle.pc_rules.proofs.Leading.{bind_unit, bind_assoc, leads_start, leads_along, follows_leads}
 
 -- ---- grouping
 
@@ -32,7 +31,7 @@ on_on k l TooManyTypes u = bind_done TooManyTypes u (λ t v. on_found t v l)
 
 pub with_found_assoc : {A B C : Type 0} (r : Run (Searched A)) (k : A → Account → Run (Searched B)) (l : B → Account → Run (Searched C)) →
     with_found (with_found r k) l ≡ with_found r (λ a u. with_found (k a u) l)
-with_found_assoc r k l = bind_assoc (λ s u. on_found s u k) (λ s u. on_found s u l) r ∙ (λ i. bind r (λ s u. on_on k l s u i))
+with_found_assoc r k l = bind_assoc r (λ s u. on_found s u k) (λ s u. on_found s u l) ∙ (λ i. bind r (λ s u. on_on k l s u i))
 
 on_unit : {A : Type 0} (s : Searched A) (u : Account) → done s u ≡ on_found s u (λ a v. done (Found a) v)
 on_unit (Found a) u = refl

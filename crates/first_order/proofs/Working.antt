@@ -32,12 +32,11 @@ use Rattle.pc_rules.proofs.SameTrees.{same_is, same_itself, not_true}
 use Rattle.pc_rules.proofs.Fair.{leaves_bind, same_left}
 use Rattle.pc_rules.proofs.FairSearch.{put_arguments_leave, put_constructors_leave, argument_types_leave, work_on_leaves, or_not_leaves}
 use Rattle.pc_rules.proofs.Following.{follows_then, follows_else, follows_tick, follows_spent, follows_done}
-use Rattle.pc_rules.proofs.SameWithin.{bind_assoc}
 use Rattle.first_order.specs.declared.faults.ShapeRefusal.{ShapeRefusal}
 use Rattle.first_order.specs.Searching.{searched, one_constructor, is_whole}
 use Rattle.first_order.proofs.Lowered.{not_both}
 use Rattle.first_order.proofs.Searches.{then_done, collect_next, collect_lost, collect_end, leads_found, found_unit}
-use Rattle.pc_rules.proofs.Leading.{leads_start, leads_along}
+use Rattle.pc_rules.proofs.Leading.{bind_assoc, leads_start, leads_along}
 
 -- ---- the place of a type in a list
 
@@ -287,8 +286,8 @@ module _ (W : Term) (ps : List Term) where
       argument_types W ps (C ∷ Cs) u ≡ with_found (one_constructor W ps C u) (λ As v. then_done (argument_types W ps Cs v) (◌∷◌ As))
   unfolding argument_types
   types_are C Cs u =
-      sym (bind_assoc (λ _ v. or_not_first_order W (independent 0 (branch_entries C ps)) v) (λ s v. on_found s v (λ As w. then_done (argument_types W ps Cs w) (◌∷◌ As)))
-      (passing (any_beyond (branch_entries C ps)) u))
+      sym (bind_assoc (passing (any_beyond (branch_entries C ps)) u) (λ _ v. or_not_first_order W (independent 0 (branch_entries C ps)) v)
+      (λ s v. on_found s v (λ As w. then_done (argument_types W ps Cs w) (◌∷◌ As))))
 
   -- no units are won by a look at the argument types
   pub one_leaves : (C : Constructor) (u : Account) → Leaves (one_constructor W ps C u).end u.left

@@ -25,7 +25,7 @@ use Rattle.guard_check.specs.declared.mark.Mark.TheVariants as kept
 use Rattle.guard_check.specs.declared.tasks.Task.{Task}
 use Rattle.guard_check.specs.Marks.{mark_of, marks_of, values_in, marks_in}
 use Rattle.guard_check.specs.Tasks.{ToFind, to_find, head_mark, branches_to_find, smaller_then, each_then, each_smaller}
-use Rattle.pc_rules.proofs.SameWithin.{bind_assoc}
+use Rattle.pc_rules.proofs.Leading.{bind_assoc}
 use Rattle.guard_check.proofs.Findings.{found_in, find_by_whnf}
 use Rattle.guard_check.proofs.Heads.{each_append, concluded, normal_concluded, next_then, normal_next}
 use Rattle.guard_check.proofs.Bodies.{map-push}
@@ -75,7 +75,7 @@ module _ (E : Env) (block : Option Name) where
   last_is xs x u =
       ap (λ f. f u) (each_append E block xs (x ∷ []) (λ v. done Smaller v))
       ∙ ap (λ d. bind d (λ m v. if_smaller m (each_smaller E block xs v) v)) (find_by_whnf E block x.values x.marks x.term u)
-      ∙ bind_assoc (λ W v. found_in E block x.values x.marks W v) (λ m w. if_smaller m (each_smaller E block xs w) w) (whnf E x.values x.term u)
+      ∙ bind_assoc (whnf E x.values x.term u) (λ W v. found_in E block x.values x.marks W v) (λ m w. if_smaller m (each_smaller E block xs w) w)
 
   module _ (before after : List Task) (a : Task) (p : before ≡ after ++ (a ∷ [])) where
     popped : (u : Account) → each_smaller E block (map to_find before) u ≡ bind (whnf E (values_in a.scope) a.body u)

@@ -13,19 +13,20 @@ use Rattle.calculus_rules.specs.Lookups.{family_of}
 use Rattle.pc_rules.specs.DirectedWeakHead.{weak_next, case_step, app_step}
 use Rattle.pc_rules.specs.DirectedGuard.{found_at, applied, opens, constructors_of, step_on, if_smaller, if_opened, first_marks, later, look, look_branches, find}
 use Rattle.guard_check.specs.Tasks.{ToFind, head_mark, bodies_to_find, branches_to_find, smaller_then, each_then, each_smaller}
-use Rattle.pc_rules.proofs.SameWithin.{Agrees, agrees_done, agrees_at, agrees_from, agrees_bind, bind_assoc}
+use Rattle.pc_rules.proofs.SameWithin.{Agrees, agrees_done, agrees_at, agrees_from, agrees_bind}
+use Rattle.pc_rules.proofs.Leading.{bind_assoc}
 use Rattle.guard_check.proofs.Findings.{agrees_opened, agrees_smaller, after, find_is, found_in, agrees_found}
 use Rattle.pc_rules.proofs.Following.{bind_done}
-use Rattle.rule_laws.proofs.SimpleRules.{some_none}
+use Rattle.pc_rules.proofs.WeakNext.{none_some}
 
 -- the function of an application without a step has none, and neither has the scrutinee of a match
 stuck_function : (E : Env) (g a : Term) (o arg : Option Term) → app_step E g a o arg ≡ None → o ≡ None
-stuck_function E (Lambda A b) a o arg e = absurd (some_none e)
-stuck_function E g a (Some x) arg e = absurd (some_none e)
+stuck_function E (Lambda A b) a o arg e = absurd (none_some (sym e))
+stuck_function E g a (Some x) arg e = absurd (none_some (sym e))
 stuck_function E g a None arg e = refl
 
 stuck_scrutinee : (E : Env) (f : FamilyId) (ps : Terms) (n : ℕ) (ret s : Term) (bs : Terms) (o : Option Term) → case_step E f ps n ret s bs o ≡ None → o ≡ None
-stuck_scrutinee E f ps n ret s bs (Some x) e = absurd (some_none e)
+stuck_scrutinee E f ps n ret s bs (Some x) e = absurd (none_some (sym e))
 stuck_scrutinee E f ps n ret s bs None e = refl
 
 -- only a variable is the argument itself, and no branches are at its head
@@ -74,7 +75,7 @@ module _ (E : Env) (r : Option Name) where
   each_bind [] k l u h = refl
   each_bind (x ∷ xs) k l u h =
       each_bind xs (smaller_then E r x k) l u h
-      ∙ (λ i. each_then E r xs (λ v. (bind_assoc (λ m w. if_smaller m (k w) w) l (found_in E r x.values x.marks x.term v)
+      ∙ (λ i. each_then E r xs (λ v. (bind_assoc (found_in E r x.values x.marks x.term v) (λ m w. if_smaller m (k w) w) l
       ∙ (λ j. bind (found_in E r x.values x.marks x.term v) (λ m w. smaller_bind m k l w (h w) j))) i) u)
 
   -- what a term is, of which the mark of its head and the branches there are known

@@ -1,11 +1,11 @@
 -- The headline, from the laws of the layers.
-use Rattle.std.proofs.Common.{◌<◌, ◌≤◌, ℕ, List, arith}
+use Rattle.std.proofs.Common.{◌≡◌, ◌<◌, ◌≤◌, ℕ, List, subst, arith}
 use Rattle.pc_terms.specs.Syntax.{Term}
 use Rattle.calculus_rules.specs.Accepted.{IsAccepted}
 use Rattle.calculus_rules.specs.Environment.{Env}
 use Rattle.calculus_rules.specs.Evaluation.{Evaluates}
 use Rattle.pc_rules.specs.Entailment.{test_of}
-use Rattle.calculus_rules.specs.FirstOrder.{Shape as Member, IsFirstOrder}
+use Rattle.calculus_rules.specs.FirstOrder.{Shape as Member, IsFirstOrder, FitsShapes}
 use Rattle.calculus_rules.specs.Lawful.{IsLawfulEvaluation}
 use Rattle.calculus_rules.proofs.Bare.{bare_types}
 use Rattle.pc_rules.proofs.Entailing.{entailed_decides}
@@ -13,6 +13,7 @@ use Rattle.dump_reader.specs.declared.environment.RawEnv.{RawEnv}
 use Rattle.first_order.specs.declared.shapes.Shape.{Shape}
 use Rattle.first_order.specs.Searching.{members}
 use Rattle.lambda_box.specs.BoxProgram.{BoxProgram}
+use Rattle.lambda_box.specs.BoxData.{BoxReads}
 use Rattle.typing_laws.proofs.DataAlong.{data_is_along_each, reading_is_determined}
 use Rattle.erase_rules.proofs.Together.{program_keeps_values}
 use Rattle.read_counts.proofs.KeptBlocks.{few_counts}
@@ -51,14 +52,17 @@ module _ (e : RawEnv) (E : Env) (T : Term) (accepted : IsAcceptedAs e E T) where
         let i = of_source e E T P accepted erased fits in
         let counts = few_counts e accepted.spelled E T d in
         let test = entailed_decides E.levels E.constraints a.consistent a.over in
-        let k = program_keeps_values E a counts (test_of E) test erased.room e.main T d.formed.typed P erased.before erased.after erased.gives v n x h (members types) first in
-        let kept : EvaluatesTo P h.main.answer n = record { value = k.0; nodes = k.1; matches = k.2; few = k.3; evaluates = k.4; reads = k.6 } in
+        let k = program_keeps_values E a counts (test_of E) test erased.room e.main T d.formed.typed P erased.before erased.after erased.gives v n x (members types) first in
+        let exactly = value_exactly h (members types) first in
+        let same : k.0 ≡ h.main.answer = exactly.only k.0 k.6 in
+        let kept : EvaluatesTo P h.main.answer n = record { value = k.1; nodes = k.2; matches = k.3; few = k.4; evaluates = k.5; reads = subst (BoxReads P k.1) same k.7 } in
+        let data_fits : FitsShapes (members types) 0 h.main.answer = subst (FitsShapes (members types) 0) same k.8 in
         record {
-          exactly = value_exactly h (members types) first;
+          exactly = exactly;
           kept = kept;
           runs = each_run P pages (source_words E e.main) (source_branches E) n h.main.answer pos small (omega arith) i.words i.within kept;
-          fits = k.7;
-          text = λ names named. fitting_is_written types names named h.main.answer k.7;
+          fits = data_fits;
+          text = λ names named. fitting_is_written types names named h.main.answer data_fits;
         }
 
 pub headline : Headline

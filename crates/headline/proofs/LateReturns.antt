@@ -1,6 +1,7 @@
 -- A run that returns has made at least as many steps as the evaluation of the saturated program has matches.
 use Rattle.std.proofs.Common.{◌∙◌, ◌≤◌, List, [], length, refl, sym, subst, arith}
 use Rattle.std.proofs.lemmas.Option.{same_Some}
+use Rattle.trees.specs.Measures.{depth_limit}
 use Rattle.lambda_box.specs.BoxProgram.{BoxFamily, Has}
 use Rattle.lambda_box.specs.ClosureEvaluation.{Empty, NoValue, bind_all, ClosureRun}
 use Rattle.lambda_box.specs.DataTerms.{no_data, hold_none}
@@ -32,7 +33,7 @@ late_returns P pages b pos small some ok value tree nodes matches evaluates read
     let S = shrunk_program P in
     let before = passes_form P ok.form in
     let kept = shrunk_forms P ok.form in
-    let depths = shrunk_shallow P ok.form 2048 ok.constants ok.main in
+    let depths = shrunk_shallow P ok.form depth_limit ok.constants ok.main in
     let shallow = all_shallow S.constants depths.0 in
     let few : ConstructorsWithin S b = subst (λ (Fs : List BoxFamily). (F : BoxFamily) → Has Fs F → length F.args ≤ b) (sym kept.families) (families P.families b ok.constructors) in
     let formed : AnfFormed (to_anf S) b = form_kept S (to_anf S) refl shallow depths.1 kept.form kept.ordinary b few in

@@ -22,7 +22,6 @@ use Rattle.lambda_box.specs.BoxForm.{IsBoxProgram}
 use Rattle.lambda_box.specs.DataTerms.{binder_depth, binder_depth_terms, binder_depth_constants, greatest_of, greatest_arguments, greatest_words}
 use Rattle.erase_laws.specs.Erases.{Erases, box, ErasesBranches, ErasesBodies, body}
 use Rattle.erase_laws.specs.ErasedProgram.{arguments_of, AreErased, none_erased, not_reached, reached, IsErased}
-use Rattle.typing_laws.proofs.AcceptedClosed.{mapped}
 use Rattle.erase_rules.specs.DirectedErasure.{erased}
 use Rattle.erase_rules.specs.DirectedProgram.{Reached, Answer, Program, answer, box_families, families_from, erased_constants}
 use Rattle.erase_rules.proofs.Program.{gives_both, given_value, program_is, program_is_erased}
@@ -33,6 +32,7 @@ use Rattle.headline.proofs.Derived.{derived}
 use Rattle.dump_reader.specs.declared.environment.RawEnv.{RawEnv}
 use Rattle.headline.specs.SourceWords.{source_words, binders_over, binders_over_terms, binders_in, most_arguments, most_in_families, most_in_blocks, most_constructors, most_alternatives, source_branches}
 use Rattle.headline.specs.AcceptedProgram.{IsAcceptedAs, IsErasedTo, ErasedProgramsAreWithin}
+use Rattle.calculus_rules.proofs.Listing.{from_map}
 
 -- binders
 
@@ -108,10 +108,10 @@ few_constructors E X h =
     let F : FamilyDecl = b.1 in
     let k = b.2 in
     let B : Block = k.0 in
-    let g = mapped (with_parameters B.params) (slice_get B.families b.0.family) F k.3 in
+    let g = from_map (with_parameters B.params) (slice_get B.families b.0.family) F k.3 in
     let G : Family = g.0 in
     let args : length X.args ≡ length F.constructors = ap (λ (x : BoxFamily). length x.args) b.3 ∙ length-map F.constructors arguments_of in
-    let ctors : length G.ctors ≡ length F.constructors = ap (λ (x : FamilyDecl). length x.constructors) g.2 in
+    let ctors : length G.ctors ≡ length F.constructors = ap (λ (x : FamilyDecl). length x.constructors) (sym g.2) in
     let a = family_constructors B.families b.0.family G g.1 in
     let c = kept_constructors E.declarations B k.1 in
     omega (arith, args, ctors, a, c)

@@ -5,7 +5,6 @@ use Rattle.std.proofs.lemmas.Bool.{eq-eqb}
 use Rattle.std.proofs.lemmas.Option.{slice_get-get_or, slice_get-map}
 use Rattle.calculus_rules.specs.FirstOrder.{Shape as Member, Data, FitsShapes, fits, FieldsFit, no_field_fits, field_fits}
 use Rattle.calculus_rules.specs.Lookups.{if_some}
-use Rattle.typing_laws.proofs.AcceptedClosed.{mapped}
 use Rattle.first_order.specs.declared.shapes.Shape.{Shape}
 use Rattle.first_order.specs.declared.shapes.ShapeCtor.{ShapeCtor}
 use Rattle.first_order.specs.Searching.{member, members, places}
@@ -13,6 +12,7 @@ use Rattle.first_order.specs.Texts.{Naming, counted_ctor, constructor_in, by_sha
 use Rattle.first_order.proofs.Written.{written_node, nothing_written, is_text, before_both}
 use Rattle.first_order.proofs.ReadTexts.{shapes_count, named_at}
 use Rattle.headline.specs.WrittenData.{FittingDataIsWritten}
+use Rattle.calculus_rules.proofs.Listing.{from_map}
 
 before_none : (w : Writing) → w ≡ before [] w
 before_none (Written v) = refl
@@ -27,16 +27,16 @@ behind_at j (suc n) c = refl
 has_name : (S : List Shape) (names : List (List ℕ)) → HasNames S names → (i c : ℕ) (m : Member) (js : List ℕ) → slice_get (members S) i ≡ Some m → slice_get m.constructors c ≡ Some js →
     (name : List ℕ) × (by_shapes S names i (c, length js) ≡ Some (name, js))
 has_name S names all i c m js at ctor =
-    let a = mapped member (slice_get S i) m (sym (slice_get-map member S i) ∙ at) in
+    let a = from_map member (slice_get S i) m (sym (slice_get-map member S i) ∙ at) in
     let h : Shape = a.0 in
-    let b = mapped places (slice_get h.ctors c) js (sym (slice_get-map places h.ctors c) ∙ ap (λ (x : Member). slice_get x.constructors c) a.2 ∙ ctor) in
+    let b = from_map places (slice_get h.ctors c) js (sym (slice_get-map places h.ctors c) ∙ ap (λ (x : Member). slice_get x.constructors c) (sym a.2) ∙ ctor) in
     let k : ShapeCtor = b.0 in
     let there : constructor_in S i c (length js) ≡ Some k =
     ap (λ o. if_some o (λ (h : Shape). if_some (slice_get h.ctors c) (λ k. counted_ctor (length js) k))) a.1
     ∙ ap (λ o. if_some o (λ k. counted_ctor (length js) k)) b.1
-    ∙ ap (λ b. if b then Some k else None) (eq-eqb (length k.args) (length js) (ap length b.2)) in
+    ∙ ap (λ b. if b then Some k else None) (eq-eqb (length k.args) (length js) (ap length (sym b.2))) in
     let name = get_or names k.name.0 [] in
-    (name, named_at S names i (c, length js) k name there (sym (slice_get-get_or names k.name.0 [] (all i c h k a.1 b.1))) ∙ ap (λ js. Some (name, js)) b.2)
+    (name, named_at S names i (c, length js) k name there (sym (slice_get-get_or names k.name.0 [] (all i c h k a.1 b.1))) ∙ ap (λ js. Some (name, js)) (sym b.2))
 
 -- a writer of trees that wait: each has a place and brackets that are closed behind it. The type of what waits is private to `first_order`
 record IsWriter {X : Type 0} (N : Naming) (w : List X → Data → ℕ → Writing) (place closes : X → ℕ) (behind : ℕ → ℕ → ℕ → X) (waits : List ℕ → ℕ → List X) : Type 0 where

@@ -1,6 +1,6 @@
 -- The program of an accepted environment: how it comes from the environment, and that it is within the limits of the passes.
 use Rattle.std.specs.Prelude.{◌≡◌, ℕ, ◌≤◌, List, Option}
-use Rattle.trees.specs.Measures.{depth}
+use Rattle.trees.specs.Measures.{depth, depth_limit}
 use Rattle.pc_terms.specs.Syntax.{Term}
 use Rattle.pc_rules.specs.declared.meter.Account.{Account}
 use Rattle.calculus_rules.specs.Environment.{Env}
@@ -16,7 +16,7 @@ use Rattle.lambda_box.specs.DataTerms.{greatest_words}
 use Rattle.erase_rules.specs.DirectedProgram.{Program, erased_program}
 use Rattle.box_passes.specs.PassLaws.{saturated_program}
 use Rattle.closure_lift.specs.LiftedForm.{Limits}
-use Rattle.back_end.specs.BackEnd.{passed, deepest, IsWithinPasses}
+use Rattle.back_end.specs.BackEnd.{passed, IsWithinPasses}
 use Rattle.headline.specs.SourceWords.{source_words, source_branches}
 
 -- some text spells e within the limits, and the directed rules accept it, with some units and some room for nested rules: E keeps its declarations, T is main's type
@@ -46,8 +46,8 @@ pub record IsErasedTo (E : Env) (main : Term) (P : BoxProgram) : Type 0 where
 -- the program is within what the laws of the passes ask: after saturation no term is too deep, and the lifted program is within the limits of emission. Lifting refuses some of these programs besides; none
 -- that has a module (`Fits` of `compile`) is outside
 pub record FitsPasses (P : BoxProgram) : Type 0 where
-  pub constants : (d : BoxConstant) → Has (saturated_program P).constants d → depth d.body ≤ deepest
-  pub main : depth (saturated_program P).main ≤ deepest
+  pub constants : (d : BoxConstant) → Has (saturated_program P).constants d → depth d.body ≤ depth_limit
+  pub main : depth (saturated_program P).main ≤ depth_limit
   pub limits : Limits (passed P)
 
 -- it has the form of programs, at most as many constructors in a family as its source, and at most the source's words

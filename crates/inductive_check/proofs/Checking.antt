@@ -24,10 +24,7 @@ use Rattle.pc_rules.proofs.Leaving.{leaving}
 use Rattle.inductive_check.proofs.Leading.{leads_done, follows_first}
 use Rattle.pc_rules.proofs.ListSteps.{next_is, none_left}
 use Rattle.pc_rules.proofs.Leading.{leads_along}
-
-put_all_more : (xs : List Term) (t : Term) (s : ℕ → Term) → put_all (xs ++ (t ∷ [])) s ≡ first t (put_all xs s)
-put_all_more [] t s = refl
-put_all_more (x ∷ xs) t s = put_all_more xs t (first x s)
+use Rattle.calculus_rules.proofs.Spines.{put_more}
 
 pub counted_more : (E : Env) (xs : List Term) (t : Term) → AreCounted E xs → IsCounted E t → AreCounted E (xs ++ (t ∷ []))
 counted_more E [] t h k = (k, tt)
@@ -83,4 +80,4 @@ results_fault E inf cmp c s ts As i t A lt lA is iA whole m0 m1 l after f h hf h
 -- one more term is put in
 pub first_put : (E : Env) (inf : Typing) (cmp : Comparison) (c : Context) (xs : List Term) (t : Term) (s : ℕ → Term) (ts As : List Term) (u : Account) →
     check_all E inf cmp c (first t (put_all xs s)) ts As u ≡ check_all E inf cmp c (put_all (xs ++ (t ∷ [])) s) ts As u
-first_put E inf cmp c xs t s ts As u = ap (λ r. check_all E inf cmp c r ts As u) (sym (put_all_more xs t s))
+first_put E inf cmp c xs t s ts As u = ap (λ r. check_all E inf cmp c r ts As u) (sym (put_more xs t s))

@@ -1,7 +1,7 @@
 -- What a test comes to: it holds, it fails, or others wait in its place.
 use Rattle.std.proofs.Common.{◌≡◌, ℕ, zero, suc, ◌+◌, ◌-◌, ◌<◌, ◌≤◌, Bool, true, false, if◌then◌else◌, nat_lt, nat_le, List, [], ◌∷◌, ◌++◌, length, Option, Some, None, Result, Ok, Err, add-one, refl, sym, ap, ◌∙◌, subst, arith}
 use Rattle.std.specs.Prelude.{IfOk}
-use Rattle.std.proofs.lemmas.Bool.{eq-eqb, eqb-true}
+use Rattle.std.proofs.lemmas.Bool.{eq-eqb, eqb-true, le-leb, lt-leb}
 use Rattle.pc_terms.specs.declared.leaf.Name.{Name}
 use Rattle.pc_terms.specs.declared.term.Node.{Node}
 use Rattle.pc_terms.specs.declared.term.Node.TheVariants as node
@@ -29,9 +29,6 @@ use Rattle.pc_rules.proofs.FairPositivity.{good_leaves, nestable_leaves}
 use Rattle.inductive_check.specs.Waiting.{Waiting, type_waits, argument_waits, arguments_waiting, families_waiting, one_test, each_then, each_test, Goes}
 use Rattle.inductive_check.proofs.Nesting.{agrees_less, agrees_both, good_fuel}
 use Rattle.inductive_check.proofs.InTurn.{both_assoc, yes_both, no_both, both_leaves, each_append, last_test, families_wait, arguments_wait, each_agrees, each_leaves}
-
-absurd_true : {A : Type 0} → true ≡ false → A
-absurd_true e = absurd (cc)
 
 -- a run by an equation
 pub goes_by : (E : Env) (before : List Waiting) (x : Waiting) (after : List Waiting) (b : Bool) (m : Meter) →
@@ -326,17 +323,7 @@ same_no k l n = go (same_names k l) refl where
   go true e = absurd (n (eqb-true k.0 l.0 e))
 
 pub too_few : (xs ys : List Term) (n : ℕ) → xs ≡ ys → length xs < n → nat_le n (length ys) ≡ false
-too_few xs ys n e l = let q : length xs ≡ length ys = ap length e in no n (length ys) (omega arith) where
-  no : (m n : ℕ) → n < m → nat_le m n ≡ false
-  no m n l = grind arith
+too_few xs ys n e l = let q : length xs ≡ length ys = ap length e in lt-leb n (length ys) (omega arith)
 
 pub enough : (xs ys : List Term) (n : ℕ) → xs ≡ ys → n ≤ length xs → nat_le n (length ys) ≡ true
-enough xs ys n e l = let q : length xs ≡ length ys = ap length e in yes' n (length ys) (omega arith) where
-  yes' : (m n : ℕ) → m ≤ n → nat_le m n ≡ true
-  yes' m n l = grind arith
-
-pub lt_yes : (m n : ℕ) → m < n → nat_lt m n ≡ true
-lt_yes m n l = grind arith
-
-pub lt_no : (m n : ℕ) → n ≤ m → nat_lt m n ≡ false
-lt_no m n l = grind arith
+enough xs ys n e l = let q : length xs ≡ length ys = ap length e in le-leb n (length ys) (omega arith)

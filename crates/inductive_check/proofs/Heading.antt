@@ -25,7 +25,7 @@ use Rattle.rule_laws.proofs.Extending.{FindsAs, counted_more, block_more, fresh_
 use Rattle.rule_laws.proofs.Blocks.{block_sound}
 use Rattle.inductive_check.specs.Given.{family_of, block_from}
 use Rattle.inductive_check.specs.Arguments.{entries_rule}
-use Rattle.inductive_check.proofs.Leading.{bind_assoc}
+use Rattle.pc_rules.proofs.Leading.{bind_assoc}
 use Rattle.inductive_check.proofs.Sound.{decides}
 use Rattle.pc_rules.proofs.Following.{bind_done}
 

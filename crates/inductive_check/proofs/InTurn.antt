@@ -10,7 +10,8 @@ use Rattle.calculus_rules.specs.Environment.{Env}
 use Rattle.pc_rules.specs.DirectedRun.{Run, done, bind, Leaves}
 use Rattle.pc_rules.specs.DirectedPositivity.{both, argument_good, good, arguments_good, types_good, constructors_good, families_good, nestable}
 use Rattle.pc_rules.proofs.Fair.{leaves_bind, leaves_if, same_left}
-use Rattle.pc_rules.proofs.SameWithin.{Agrees, agrees_at, agrees_from, bind_assoc}
+use Rattle.pc_rules.proofs.SameWithin.{Agrees, agrees_at, agrees_from}
+use Rattle.pc_rules.proofs.Leading.{bind_assoc}
 use Rattle.pc_rules.proofs.Following.{bind_done}
 use Rattle.inductive_check.specs.Waiting.{Waiting, type_waits, argument_waits, arguments_waiting, types_waiting, constructors_waiting, families_waiting, one_test, each_then, each_test}
 use Rattle.inductive_check.proofs.Nesting.{agrees_both, good_fuel, argument_fuel}
@@ -22,7 +23,7 @@ if_both false k l v = bind_done false v (λ b w. if b then l w else done false w
 
 pub both_assoc : (r : Run Bool) (k l : Account → Run Bool) → both (both r k) l ≡ both r (λ v. both (k v) l)
 both_assoc r k l =
-    bind_assoc (λ b v. if b then k v else done false v) (λ b w. if b then l w else done false w) r
+    bind_assoc r (λ b v. if b then k v else done false v) (λ b w. if b then l w else done false w)
     ∙ (λ i. bind r (λ b v. if_both b k l v i))
 
 pub yes_both : (u : Account) (k : Account → Run Bool) → both (done true u) k ≡ k u

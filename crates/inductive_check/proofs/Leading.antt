@@ -1,41 +1,17 @@
 -- Runs that have come to another one, and what follows them.
-use Rattle.std.proofs.Common.{◌≡◌, ◌∙◌, sym, ap, refl, ◌||◌, Bool, false, Result, Ok, Err, List, [], ◌∷◌, ◌++◌, append_assoc, append-nil}
-use Rattle.std.proofs.Math.Bool.{or_assoc, or-false}
+use Rattle.std.proofs.Common.{◌≡◌, ◌∙◌, sym, ap, Result, Ok, Err, List, [], ◌∷◌, ◌++◌, append_assoc, append-nil}
 use Rattle.pc_rules.specs.declared.meter.Account.{Account}
 use Rattle.pc_rules.specs.declared.meter.Meter.{Meter}
 use Rattle.pc_rules.specs.declared.stop.Stop.TheVariants.{Memory}
 use Rattle.pc_rules.specs.declared.stop.Halt.{Halt}
 use Rattle.pc_rules.specs.declared.stop.Halt.TheVariants.{Stop}
-use Rattle.pc_rules.specs.DirectedRun.{Run, End, Done, Refused, NoUnit, Nested, done, bind, end_then, deep_then, Leaves}
+use Rattle.pc_rules.specs.DirectedRun.{Run, Done, done, bind, Leaves}
 use Rattle.pc_rules.specs.Follows.{Follows, IsAfter, Answers}
 use Rattle.pc_rules.specs.Leads.{Leads}
 use Rattle.pc_rules.proofs.Meters.{after-refl, after-trans}
 use Rattle.pc_rules.proofs.Fair.{leaves_bind, same_left}
 use Rattle.pc_rules.proofs.Following.{bind_end, bind_deep, follows_bind, follows_err, follows_memory, follows_still, bind_done, leaves_at, leads_leave}
-use Rattle.pc_rules.proofs.Leading.{bind_unit, leads_start, leads_along, follows_leads}
-
-end_assoc : {A B C : Type 0} (e : End A) (f : A → Account → End B) (g : B → Account → End C) →
-    end_then (end_then e f) g ≡ end_then e (λ a u. end_then (f a u) g)
-end_assoc (Done a u) f g = refl
-end_assoc (Refused b u) f g = refl
-end_assoc NoUnit f g = refl
-end_assoc Nested f g = refl
-
-deep_assoc : {A B C : Type 0} (x : Bool) (e : End A) (f : A → Account → Run B) (g : B → Account → Run C) →
-    ((x || deep_then e (λ a u. (f a u).deep)) || deep_then (end_then e (λ a u. (f a u).end)) (λ b v. (g b v).deep)) ≡
-    (x || deep_then e (λ a u. (f a u).deep || deep_then (f a u).end (λ b v. (g b v).deep)))
-deep_assoc x (Done a u) f g = or_assoc x (f a u).deep (deep_then (f a u).end (λ b v. (g b v).deep))
-deep_assoc x (Refused b u) f g = or-false (x || false)
-deep_assoc x NoUnit f g = or-false (x || false)
-deep_assoc x Nested f g = or-false (x || false)
-
--- one after the other is the same however they are grouped
-pub bind_assoc : {A B C : Type 0} (d : Run A) (f : A → Account → Run B) (g : B → Account → Run C) → bind (bind d f) g ≡ bind d (λ a u. bind (f a u) g)
-unfolding bind
-bind_assoc d f g = λ i. record {
-  end = end_assoc d.end (λ a u. (f a u).end) (λ b v. (g b v).end) i;
-  deep = deep_assoc d.deep d.end f g i;
-}
+use Rattle.pc_rules.proofs.Leading.{bind_unit, bind_assoc, leads_start, leads_along, follows_leads}
 
 -- the first part is done
 pub leads_done : {A B : Type 0} (whole : Run B) (d : Run A) (k : A → Account → Run B) (a : A) (u : Account) → Leads whole (bind d k) → d.end ≡ Done a u → Leads whole (k a u)

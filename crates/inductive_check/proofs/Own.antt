@@ -1,5 +1,7 @@
 -- Whether the arguments of a family of the target's own block begin with the block's parameters.
 use Rattle.std.proofs.Common.{◌≡◌, ℕ, zero, suc, ◌+◌, ◌-◌, ◌<◌, ◌≤◌, ◌==◌, ◌&&◌, ◌||◌, not, Bool, true, false, if◌then◌else◌, nat_lt, List, [], ◌∷◌, ◌++◌, length, Option, None, refl, sym, ap, ◌∙◌, arith}
+use Rattle.std.proofs.lemmas.Bool.{lt-ltb, le-ltb}
+use Rattle.std.proofs.Math.Bool.{and_assoc, and-true}
 use Rattle.pc_terms.specs.declared.leaf.Name.{Name}
 use Rattle.pc_terms.specs.Syntax.{Term, Rel, SortT, Prod, Lambda, LetIn, App, Const, Ind, Construct, Case, Fix, args}
 use Rattle.calculus_rules.specs.declared.target.Target.{Target}
@@ -13,23 +15,15 @@ abbrev fits : Target → ℕ → ℕ → ℕ → List Term → Bool
 fits g n j i [] = true
 fits g n j i (a ∷ xs) = (if nat_lt i n then is_parameter n j i a else not (names g j a)) && fits g n j (suc i) xs
 
-and_assoc : (a b c : Bool) → ((a && b) && c) ≡ (a && (b && c))
-and_assoc true b c = refl
-and_assoc false b c = refl
-
-and_true : (a : Bool) → (a && true) ≡ a
-and_true true = refl
-and_true false = refl
-
 and_swap : (a b : Bool) → (a && b) ≡ (b && a)
-and_swap true b = sym (and_true b)
+and_swap true b = sym (and-true b)
 and_swap false true = refl
 and_swap false false = refl
 
 fits_more : (g : Target) (n j i m : ℕ) (xs : List Term) (a : Term) → m ≡ i + length xs →
     fits g n j i (xs ++ (a ∷ [])) ≡ (fits g n j i xs && (if nat_lt m n then is_parameter n j m a else not (names g j a)))
 fits_more g n j i m [] a e =
-    and_true (if nat_lt i n then is_parameter n j i a else not (names g j a))
+    and-true (if nat_lt i n then is_parameter n j i a else not (names g j a))
     ∙ ap (λ i. if nat_lt i n then is_parameter n j i a else not (names g j a)) (let q : i ≡ m = omega arith in q)
 fits_more g n j i m (x ∷ xs) a e =
     ap (λ b. (if nat_lt i n then is_parameter n j i x else not (names g j x)) && b) (fits_more g n j (suc i) m xs a (omega arith))
@@ -60,17 +54,11 @@ own_fits g n j m (Construct f c) e = refl
 own_fits g n j m (Case f ps k ret s bs) e = refl
 own_fits g n j m (Fix i rargs types bodies) e = refl
 
-lt_not : (i n : ℕ) → n ≤ i → nat_lt i n ≡ false
-lt_not i n l = grind arith
-
-lt_is : (i n : ℕ) → i < n → nat_lt i n ≡ true
-lt_is i n l = grind arith
-
 -- past the parameters no argument names the target
 rest_fits : (g : Target) (n j i : ℕ) (xs : List Term) → n ≤ i → fits g n j i xs ≡ not (some_names g j xs)
 rest_fits g n j i [] l = refl
 rest_fits g n j i (x ∷ xs) l =
-    ap (λ b. (if b then is_parameter n j i x else not (names g j x)) && fits g n j (suc i) xs) (lt_not i n l)
+    ap (λ b. (if b then is_parameter n j i x else not (names g j x)) && fits g n j (suc i) xs) (le-ltb i n l)
     ∙ ap (λ b. not (names g j x) && b) (rest_fits g n j (suc i) xs (omega arith)) ∙ neither (names g j x) (some_names g j xs) where
       neither : (a b : Bool) → (not a && not b) ≡ not (a || b)
       neither true b = refl
@@ -81,22 +69,22 @@ parameters_fit : (g : Target) (n j i p : ℕ) (xs : List Term) → p + i ≡ n �
 parameters_fit g n j i zero xs e l = rest_fits g n j i xs (omega arith)
 parameters_fit g n j i (suc p) [] e l = absurd (omega arith)
 parameters_fit g n j i (suc p) (Rel v ∷ xs) e l =
-    ap (λ b. (if b then (v == n - 1 - i + j) else not (names g j (Rel v))) && fits g n j (suc i) xs) (lt_is i n (omega arith))
+    ap (λ b. (if b then (v == n - 1 - i + j) else not (names g j (Rel v))) && fits g n j (suc i) xs) (lt-ltb i n (omega arith))
     ∙ ap (λ k. (v == k + j) && fits g n j (suc i) xs) (let q : n - 1 - i ≡ p = omega arith in q)
     ∙ ap (λ b. (v == p + j) && b) (parameters_fit g n j (suc i) p xs (omega arith) (omega arith)) ∙ both (v == p + j) (after_parameters p j xs) where
       both : (b : Bool) (o : Option (List Term)) → (b && none_named g j o) ≡ none_named g j (if b then o else None)
       both true o = refl
       both false o = refl
-parameters_fit g n j i (suc p) (SortT s ∷ xs) e l = ap (λ b. (if b then false else not (names g j (SortT s))) && fits g n j (suc i) xs) (lt_is i n (omega arith))
-parameters_fit g n j i (suc p) (Prod A B ∷ xs) e l = ap (λ b. (if b then false else not (names g j (Prod A B))) && fits g n j (suc i) xs) (lt_is i n (omega arith))
-parameters_fit g n j i (suc p) (Lambda A b ∷ xs) e l = ap (λ c. (if c then false else not (names g j (Lambda A b))) && fits g n j (suc i) xs) (lt_is i n (omega arith))
-parameters_fit g n j i (suc p) (LetIn b B t ∷ xs) e l = ap (λ c. (if c then false else not (names g j (LetIn b B t))) && fits g n j (suc i) xs) (lt_is i n (omega arith))
-parameters_fit g n j i (suc p) (App f a ∷ xs) e l = ap (λ b. (if b then false else not (names g j (App f a))) && fits g n j (suc i) xs) (lt_is i n (omega arith))
-parameters_fit g n j i (suc p) (Const c ∷ xs) e l = ap (λ b. (if b then false else not (names g j (Const c))) && fits g n j (suc i) xs) (lt_is i n (omega arith))
-parameters_fit g n j i (suc p) (Ind f ∷ xs) e l = ap (λ b. (if b then false else not (names g j (Ind f))) && fits g n j (suc i) xs) (lt_is i n (omega arith))
-parameters_fit g n j i (suc p) (Construct f c ∷ xs) e l = ap (λ b. (if b then false else not (names g j (Construct f c))) && fits g n j (suc i) xs) (lt_is i n (omega arith))
-parameters_fit g n j i (suc p) (Case f ps m ret s bs ∷ xs) e l = ap (λ b. (if b then false else not (names g j (Case f ps m ret s bs))) && fits g n j (suc i) xs) (lt_is i n (omega arith))
-parameters_fit g n j i (suc p) (Fix k rargs types bodies ∷ xs) e l = ap (λ b. (if b then false else not (names g j (Fix k rargs types bodies))) && fits g n j (suc i) xs) (lt_is i n (omega arith))
+parameters_fit g n j i (suc p) (SortT s ∷ xs) e l = ap (λ b. (if b then false else not (names g j (SortT s))) && fits g n j (suc i) xs) (lt-ltb i n (omega arith))
+parameters_fit g n j i (suc p) (Prod A B ∷ xs) e l = ap (λ b. (if b then false else not (names g j (Prod A B))) && fits g n j (suc i) xs) (lt-ltb i n (omega arith))
+parameters_fit g n j i (suc p) (Lambda A b ∷ xs) e l = ap (λ c. (if c then false else not (names g j (Lambda A b))) && fits g n j (suc i) xs) (lt-ltb i n (omega arith))
+parameters_fit g n j i (suc p) (LetIn b B t ∷ xs) e l = ap (λ c. (if c then false else not (names g j (LetIn b B t))) && fits g n j (suc i) xs) (lt-ltb i n (omega arith))
+parameters_fit g n j i (suc p) (App f a ∷ xs) e l = ap (λ b. (if b then false else not (names g j (App f a))) && fits g n j (suc i) xs) (lt-ltb i n (omega arith))
+parameters_fit g n j i (suc p) (Const c ∷ xs) e l = ap (λ b. (if b then false else not (names g j (Const c))) && fits g n j (suc i) xs) (lt-ltb i n (omega arith))
+parameters_fit g n j i (suc p) (Ind f ∷ xs) e l = ap (λ b. (if b then false else not (names g j (Ind f))) && fits g n j (suc i) xs) (lt-ltb i n (omega arith))
+parameters_fit g n j i (suc p) (Construct f c ∷ xs) e l = ap (λ b. (if b then false else not (names g j (Construct f c))) && fits g n j (suc i) xs) (lt-ltb i n (omega arith))
+parameters_fit g n j i (suc p) (Case f ps m ret s bs ∷ xs) e l = ap (λ b. (if b then false else not (names g j (Case f ps m ret s bs))) && fits g n j (suc i) xs) (lt-ltb i n (omega arith))
+parameters_fit g n j i (suc p) (Fix k rargs types bodies ∷ xs) e l = ap (λ b. (if b then false else not (names g j (Fix k rargs types bodies))) && fits g n j (suc i) xs) (lt-ltb i n (omega arith))
 
 short : (p j : ℕ) (xs : List Term) → length xs < p → after_parameters p j xs ≡ None
 short zero j xs l = absurd (omega arith)

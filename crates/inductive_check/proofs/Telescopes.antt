@@ -17,11 +17,11 @@ use Rattle.pc_rules.specs.Follows.{Follows, IsAfter}
 use Rattle.pc_rules.specs.Leads.{Leads}
 use Rattle.pc_rules.specs.WellCounted.{IsCounted, AreCounted, IsCountedContext}
 use Rattle.inductive_check.specs.Arguments.{argument_rule, entries_rule}
-use Rattle.inductive_check.proofs.Leading.{bind_assoc, collect_next, collect_first}
+use Rattle.inductive_check.proofs.Leading.{collect_next, collect_first}
 use Rattle.pc_rules.proofs.ListSteps.{next_is, none_left}
 use Rattle.pc_rules.proofs.Following.{bind_done}
 use Rattle.pc_rules.proofs.FairTyping.{FairTyping, arguments_leave}
-use Rattle.pc_rules.proofs.Leading.{leads_along}
+use Rattle.pc_rules.proofs.Leading.{bind_assoc, leads_along}
 
 -- the context is longer by an entry, and what is left of the telescope is shorter
 pub extend_next : (c : Context) (As : List Term) (i : ℕ) (A : Term) → i < length As → A ≡ get_or As i A →

@@ -7,6 +7,7 @@ ghost use Rattle.pc_rules.specs.DirectedDeclarations.{fits_sort, positive_rule};
 ghost use Rattle.pc_rules.specs.Entailment.{test_of};
 ghost use Rattle.pc_rules.specs.Follows.{Follows, Answers};
 ghost use Rattle.pc_rules.specs.WellCounted.{IsCounted, AreCounted, IsCountedContext, IsCountedEnv};
+ghost use Rattle.pc_rules.specs.DirectedRun.{most_nested};
 ghost use Rattle.inductive_check.specs.Arguments.{argument_within, arguments_within};
 
 use crate::listing::push;
@@ -82,7 +83,7 @@ fn argument<T: Typer>(
     ty: &Term,
     m: &mut Meter,
 ) -> Result<Sort, Halt>
-    requires nest { setting.now.room + m.old.nest ≡ 2048 }
+    requires nest { setting.now.room + m.old.nest ≡ most_nested }
     requires env { IsCountedEnv setting.now.env.now }
     requires ctx { IsCountedContext setting.now.env.now ctx.now }
     requires family { IsSortOver setting.now.env.now.levels family.now }
@@ -105,7 +106,7 @@ pub(crate) fn arguments<T: Typer>(
     args: &Telescope,
     m: &mut Meter,
 ) -> Result<Sorts, Halt>
-    requires nest { setting.now.room + m.old.nest ≡ 2048 }
+    requires nest { setting.now.room + m.old.nest ≡ most_nested }
     requires env { IsCountedEnv setting.now.env.now }
     requires ctx { IsCountedContext setting.now.env.now ctx.old }
     requires family { IsSortOver setting.now.env.now.levels family.now }

@@ -6,6 +6,7 @@ ghost use Rattle.pc_rules.specs.Entailment.{test_of};
 ghost use Rattle.pc_rules.specs.Follows.{Follows};
 ghost use Rattle.pc_rules.specs.Lookup.{IsNew};
 ghost use Rattle.pc_rules.specs.WellCounted.{IsCountedEnv};
+ghost use Rattle.pc_rules.specs.DirectedRun.{most_nested};
 ghost use Rattle.rule_laws.specs.Declarations.{BlockFormed, IsCheckedBlock};
 ghost use Rattle.inductive_check.specs.Given.{IsRawBlock, block_of, block_from};
 
@@ -55,7 +56,7 @@ fn check_parts<T: Typer>(
     families: &RawFamilies,
     m: &mut Meter,
 ) -> Result<Block, Halt>
-    requires nest { setting.now.room + m.old.nest ≡ 2048 }
+    requires nest { setting.now.room + m.old.nest ≡ most_nested }
     requires env { IsCountedEnv setting.now.env.now }
     requires new { IsNew setting.now.env.now setting.now.block }
     ensures follows { Follows (block_rule setting.now.env.now (test_of setting.now.env.now) setting.now.room (block_from setting.now.block params.now families.now) m.old.account) result m.old m.new }
@@ -118,7 +119,7 @@ pub fn check_block<T: Typer, R: Reducer>(
     requires env { IsCountedEnv env.now }
     requires block { IsRawBlock raw.now }
     requires new { IsNew env.now (block_of raw.now).name }
-    ensures follows { Follows (block_rule env.now (test_of env.now) (2048 - m.old.nest) (block_of raw.now) m.old.account) result m.old m.new }
+    ensures follows { Follows (block_rule env.now (test_of env.now) (most_nested - m.old.nest) (block_of raw.now) m.old.account) result m.old m.new }
     ensures fits { IfOk result (λ block. IsCheckedBlock env.now (block_of raw.now) block) }
 {
     // The constraints of an environment are consistent.

@@ -9,6 +9,7 @@ ghost use Rattle.calculus_rules.specs.Environment.{head_of};
 ghost use Rattle.pc_rules.specs.DirectedDeclarations.{with_sorts, with_constructors, result_names};
 ghost use Rattle.pc_rules.specs.Follows.{Follows, Answers, IsAfter};
 ghost use Rattle.pc_rules.specs.WellCounted.{AreCounted, AreCountedFamilies, IsCountedContext, IsCountedEnv};
+ghost use Rattle.pc_rules.specs.DirectedRun.{most_nested};
 ghost use Rattle.rule_laws.specs.Declarations.{ConstructorsFormed, FamiliesFormed};
 ghost use Rattle.inductive_check.specs.Arguments.{constructor_within, constructors_within, families_within};
 ghost use Rattle.inductive_check.specs.Given.{ctor_of, family_of};
@@ -68,7 +69,7 @@ fn check_constructor<T: Typer>(
     ctor: &RawCtor,
     m: &mut Meter,
 ) -> Result<Constructor, Halt>
-    requires nest { setting.now.room + m.old.nest ≡ 2048 }
+    requires nest { setting.now.room + m.old.nest ≡ most_nested }
     requires env { IsCountedEnv setting.now.env.now }
     requires ctx { IsCountedContext setting.now.env.now ctx.now }
     requires sort { IsSortOver setting.now.env.now.levels family.now.sort }
@@ -103,7 +104,7 @@ fn check_constructors<T: Typer>(
     family: &RawFamily,
     m: &mut Meter,
 ) -> Result<Constructors, Halt>
-    requires nest { setting.now.room + m.old.nest ≡ 2048 }
+    requires nest { setting.now.room + m.old.nest ≡ most_nested }
     requires env { IsCountedEnv setting.now.env.now }
     requires ctx { IsCountedContext setting.now.env.now ctx.now }
     requires sort { IsSortOver setting.now.env.now.levels family.now.sort }
@@ -150,7 +151,7 @@ pub(crate) fn check_families<T: Typer>(
     families: &RawFamilies,
     m: &mut Meter,
 ) -> Result<Families, Halt>
-    requires nest { setting.now.room + m.old.nest ≡ 2048 }
+    requires nest { setting.now.room + m.old.nest ≡ most_nested }
     requires env { IsCountedEnv setting.now.env.now }
     requires ctx { IsCountedContext setting.now.env.now ctx.now }
     requires heads { AreCountedFamilies setting.now.env.now (map head_of (map family_of families.now)) }

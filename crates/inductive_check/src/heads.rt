@@ -9,6 +9,7 @@ ghost use Rattle.pc_rules.specs.DirectedDeclarations.{family_head, family_heads}
 ghost use Rattle.pc_rules.specs.Entailment.{test_of};
 ghost use Rattle.pc_rules.specs.Follows.{Follows, IsAfter};
 ghost use Rattle.pc_rules.specs.WellCounted.{AreCountedFamilies, IsCountedContext, IsCountedEnv};
+ghost use Rattle.pc_rules.specs.DirectedRun.{most_nested};
 ghost use Rattle.inductive_check.specs.Given.{family_of};
 
 use crate::levels::are_declared;
@@ -37,7 +38,7 @@ fn check_head<T: Typer>(
     family: &RawFamily,
     m: &mut Meter,
 ) -> Result<(), Halt>
-    requires nest { room + m.old.nest ≡ 2048 }
+    requires nest { room + m.old.nest ≡ most_nested }
     requires env { IsCountedEnv env.now }
     requires ctx { IsCountedContext env.now ctx.now }
     ensures follows { (B : Block) → extend [] B.params ≡ ctx.now → Follows (family_head env.now (infer env.now (test_of env.now) room) B (family_of family.now) m.old.account) result m.old m.new }
@@ -61,7 +62,7 @@ pub(crate) fn check_heads<T: Typer>(
     families: &RawFamilies,
     m: &mut Meter,
 ) -> Result<(), Halt>
-    requires nest { room + m.old.nest ≡ 2048 }
+    requires nest { room + m.old.nest ≡ most_nested }
     requires env { IsCountedEnv env.now }
     requires ctx { IsCountedContext env.now ctx.now }
     ensures follows { (B : Block) → extend [] B.params ≡ ctx.now → Follows (family_heads env.now (infer env.now (test_of env.now) room) B (map family_of families.now) m.old.account) result m.old m.new }

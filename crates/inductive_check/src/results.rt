@@ -5,6 +5,7 @@ ghost use Rattle.pc_rules.specs.declared.meter.Account.{Account};
 ghost use Rattle.pc_rules.specs.DirectedTyping.{counted};
 ghost use Rattle.pc_rules.specs.Follows.{Follows, Answers};
 ghost use Rattle.pc_rules.specs.WellCounted.{AreCounted, IsCountedContext, IsCountedEnv};
+ghost use Rattle.pc_rules.specs.DirectedRun.{most_nested};
 ghost use Rattle.inductive_check.specs.Arguments.{results_within};
 
 use crate::setting::BlockSetting;
@@ -45,7 +46,7 @@ pub(crate) fn check_results<T: Typer>(
     indices: &Telescope,
     m: &mut Meter,
 ) -> Result<(), Halt>
-    requires nest { setting.now.room + m.old.nest ≡ 2048 }
+    requires nest { setting.now.room + m.old.nest ≡ most_nested }
     requires env { IsCountedEnv setting.now.env.now }
     requires ctx { IsCountedContext setting.now.env.now ctx.now }
     requires count { length indices.now ≡ length result_terms.now }

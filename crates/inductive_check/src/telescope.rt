@@ -6,6 +6,7 @@ ghost use Rattle.pc_rules.specs.Entailment.{test_of};
 ghost use Rattle.pc_rules.specs.Follows.{Follows};
 ghost use Rattle.pc_rules.specs.WellCounted.{AreCounted, IsCountedContext, IsCountedEnv};
 ghost use Rattle.pc_rules.specs.declared.stop.Stop.TheVariants.{Memory};
+ghost use Rattle.pc_rules.specs.DirectedRun.{most_nested};
 ghost use Rattle.inductive_check.specs.Arguments.{entries_rule};
 
 use crate::types::sort_of;
@@ -40,7 +41,7 @@ pub(crate) fn enter<T: Typer>(
     telescope: &Telescope,
     m: &mut Meter,
 ) -> Result<(), Halt>
-    requires nest { room + m.old.nest ≡ 2048 }
+    requires nest { room + m.old.nest ≡ most_nested }
     requires env { IsCountedEnv env.now }
     requires ctx { IsCountedContext env.now ctx.old }
     ensures follows { Follows (entries_rule env.now (infer env.now (test_of env.now) room) ctx.old telescope.now m.old.account) result m.old m.new }

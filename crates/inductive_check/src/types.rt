@@ -5,6 +5,7 @@ ghost use Rattle.pc_rules.specs.DirectedTyping.{infer, sort_of};
 ghost use Rattle.pc_rules.specs.Entailment.{test_of};
 ghost use Rattle.pc_rules.specs.Follows.{Follows};
 ghost use Rattle.pc_rules.specs.WellCounted.{IsCounted, IsCountedContext, IsCountedEnv};
+ghost use Rattle.pc_rules.specs.DirectedRun.{most_nested};
 ghost use Rattle.inductive_check.specs.Arguments.{check_within};
 
 use crate::setting::BlockSetting;
@@ -27,7 +28,7 @@ pub(crate) fn sort_of<T: Typer>(
     t: &Term,
     m: &mut Meter,
 ) -> Result<Sort, Halt>
-    requires nest { room + m.old.nest ≡ 2048 }
+    requires nest { room + m.old.nest ≡ most_nested }
     requires env { IsCountedEnv env.now }
     requires ctx { IsCountedContext env.now ctx.now }
     ensures follows { Follows (sort_of env.now (infer env.now (test_of env.now) room) ctx.now t.now m.old.account) result m.old m.new }
@@ -49,7 +50,7 @@ pub(crate) fn check<T: Typer>(
     ty: &Term,
     m: &mut Meter,
 ) -> Result<(), Halt>
-    requires nest { setting.now.room + m.old.nest ≡ 2048 }
+    requires nest { setting.now.room + m.old.nest ≡ most_nested }
     requires env { IsCountedEnv setting.now.env.now }
     requires ctx { IsCountedContext setting.now.env.now ctx.now }
     ensures follows { Follows (check_within setting.now.env.now setting.now.room ctx.now t.now ty.now m.old.account) result m.old m.new }

@@ -2,22 +2,18 @@
 use Rattle.std.proofs.Common.{◌≡◌, ℕ, zero, suc, ◌∙◌, ◌+◌, ◌-◌, ◌<◌, ◌≤◌, inl, inr, List, [], ◌∷◌, ◌++◌, length, map, append_assoc, refl, ap, arith}
 use Rattle.std.proofs.lemmas.Bool.{or_cases}
 use Rattle.std.specs.Bool.{IsTrue}
-use Rattle.trees.specs.Measures.{depth, IsBeyond}
+use Rattle.trees.specs.Measures.{depth, depth_limit, IsBeyond}
 use Rattle.pc_terms.specs.Syntax.{Term, Rel, App, apply, shift, variables}
-use Rattle.pc_terms.proofs.Applied.{beyond-apply}
+use Rattle.pc_terms.proofs.Applied.{beyond-apply, argument_beyond}
 use Rattle.pc_rules.specs.DirectedRun.{is_beyond, any_beyond}
 use Rattle.instances.proofs.Beyond.{true_beyond}
 use Rattle.pc_rules.proofs.SearchRuns.{variables_long}
 
 -- a term is beyond the limits where it is applied to one that is
-wider : (f a : Term) → IsBeyond a → IsBeyond (App f a)
-wider f a (inl e) = inl (omega arith)
-wider f a (inr e) = inr (omega arith)
-
 pub apply-any_beyond : (f : Term) (xs : List Term) → IsTrue (any_beyond xs) → IsBeyond (apply f xs)
 apply-any_beyond f [] e = cc
 apply-any_beyond f (x ∷ xs) e = elim (or_cases (is_beyond x) (any_beyond xs) e) [
-  | inl h ↦ beyond-apply (App f x) xs (wider f x (true_beyond x h))
+  | inl h ↦ beyond-apply (App f x) xs (argument_beyond f x (true_beyond x h))
   | inr h ↦ apply-any_beyond (App f x) xs h
 ]
 
@@ -26,15 +22,15 @@ apply-depth : (f : Term) (xs : List Term) → length xs + depth f ≤ depth (app
 apply-depth f [] = omega arith
 apply-depth f (x ∷ xs) = omega (arith, apply-depth (App f x) xs)
 
-pub apply-long : (f : Term) (xs : List Term) → 2048 < length xs → IsBeyond (apply f xs)
+pub apply-long : (f : Term) (xs : List Term) → depth_limit < length xs → IsBeyond (apply f xs)
 apply-long f xs h = inl (omega (arith, apply-depth f xs))
 
-pub append-long : (xs ys : List Term) → 2048 < length ys → 2048 < length (xs ++ ys)
+pub append-long : (xs ys : List Term) → depth_limit < length ys → depth_limit < length (xs ++ ys)
 append-long [] ys h = h
 append-long (x ∷ xs) ys h = omega (arith, append-long xs ys h)
 
 -- the head applied to lifted terms and to many variables
-pub under-long : (f : Term) (xs : List Term) (n : ℕ) → 2048 < n → IsBeyond (apply f (xs ++ variables n))
+pub under-long : (f : Term) (xs : List Term) (n : ℕ) → depth_limit < n → IsBeyond (apply f (xs ++ variables n))
 under-long f xs n h = apply-long f (xs ++ variables n) (append-long xs (variables n) (omega (arith, variables_long n)))
 
 -- the next of the lifted variables

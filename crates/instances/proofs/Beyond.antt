@@ -2,14 +2,14 @@
 use Rattle.std.proofs.Common.{◌≡◌, ℕ, zero, suc, ◌<◌, ◌^◌, inl, inr, true, false, List, [], ◌∷◌, ◌++◌, length, get_or, nat_lt, map, subst as along, arith}
 use Rattle.std.specs.Bool.{IsTrue}
 use Rattle.std.proofs.lemmas.Bool.{ltb-true, or_cases}
-use Rattle.trees.specs.Measures.{depth, above, IsBeyond}
+use Rattle.trees.specs.Measures.{depth, above, depth_limit, IsBeyond}
 use Rattle.pc_terms.specs.Syntax.{Term}
 use Rattle.pc_rules.specs.DirectedRun.{is_beyond, any_beyond}
 use Rattle.pc_rules.proofs.Following.{beyond_is, or_left, or_right}
 
 pub true_beyond : (t : Term) → IsTrue (is_beyond t) → IsBeyond t
-true_beyond t e = elim (or_cases (nat_lt 2048 (depth t)) (nat_lt (2 ^ 32) (above t)) e) [
-  | inl h ↦ inl (ltb-true 2048 (depth t) h)
+true_beyond t e = elim (or_cases (nat_lt depth_limit (depth t)) (nat_lt (2 ^ 32) (above t)) e) [
+  | inl h ↦ inl (ltb-true depth_limit (depth t) h)
   | inr h ↦ inr (ltb-true (2 ^ 32) (above t) h)
 ]
 

@@ -1,7 +1,7 @@
 -- Products over telescopes, made from the inside.
 use Rattle.std.proofs.Common.{◌≡◌, ℕ, ◌+◌, ◌-◌, ◌<◌, ◌≤◌, inl, inr, List, [], ◌∷◌, ◌++◌, length, take, get_or, refl, sym, ap, ◌∙◌, arith}
 use Rattle.std.proofs.lemmas.List.{take_more}
-use Rattle.trees.specs.Measures.{depth, IsBeyond}
+use Rattle.trees.specs.Measures.{depth, depth_limit, IsBeyond}
 use Rattle.pc_terms.specs.Syntax.{Term, Prod}
 use Rattle.calculus_rules.specs.Instances.{products}
 
@@ -23,7 +23,7 @@ products-depth : (As : List Term) (T : Term) → length As ≤ depth (products A
 products-depth [] T = omega arith
 products-depth (A ∷ As) T = omega (arith, products-depth As T)
 
-pub products-long : (As : List Term) (T : Term) → 2048 < length As → IsBeyond (products As T)
+pub products-long : (As : List Term) (T : Term) → depth_limit < length As → IsBeyond (products As T)
 products-long As T h = inl (omega (arith, products-depth As T))
 
 -- the next product of those over the types from the last to the first

@@ -1,6 +1,5 @@
 -- A family of a block that is looked up is one of the block's, with the block's parameters.
-use Rattle.std.proofs.Common.{◌≡◌, get_or, Option, Some, None, slice_get, refl, sym, ap, ◌∙◌}
-use Rattle.std.specs.Option.{option_map}
+use Rattle.std.proofs.Common.{◌≡◌, get_or, Some, slice_get, refl, sym, ap, ◌∙◌}
 use Rattle.std.proofs.lemmas.Option.{get_or_from_slice_get}
 use Rattle.pc_terms.specs.declared.leaf.FamilyId.{FamilyId}
 use Rattle.calculus_rules.specs.declared.declaration.Family.{Family}
@@ -11,16 +10,13 @@ use Rattle.pc_rules.specs.Stops.{stop_of}
 use Rattle.pc_rules.specs.declared.stop.Stop.TheVariants.{TooDeep}
 use Rattle.pc_terms.specs.declared.term.MakeFault.{MakeFault}
 use Rattle.pc_terms.specs.declared.term.MakeFault.TheVariants.{TooDeep as DeepTerm, Memory}
-
-mapped : {A B : Type 0} (f : A → B) (o : Option A) (y : B) → option_map f o ≡ Some y → (x : A) × (o ≡ Some x) × (y ≡ f x)
-mapped f None y e = cc
-mapped f (Some x) y e = (x, refl, cc)
+use Rattle.calculus_rules.proofs.Listing.{from_map}
 
 -- a family of a whole block
 pub family_of-block : (E : Env) (f : FamilyId) (B : Block) (F : FamilyDecl) → whole_block (kept_at E.declarations f.block) ≡ Some B →
     family_of E f ≡ Some F → (G : Family) × (slice_get B.families f.family ≡ Some G) × (F ≡ with_parameters B.params G)
 family_of-block E f B F is e =
-    mapped (with_parameters B.params) (slice_get B.families f.family) F (sym (ap (λ o. if_some o (λ B. family_at B f.family)) is) ∙ e)
+    from_map (with_parameters B.params) (slice_get B.families f.family) F (sym (ap (λ o. if_some o (λ B. family_at B f.family)) is) ∙ e)
 
 -- and as it is read from the list
 pub family_of-read : (E : Env) (f : FamilyId) (B : Block) (F : FamilyDecl) (G : Family) → whole_block (kept_at E.declarations f.block) ≡ Some B →

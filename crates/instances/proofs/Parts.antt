@@ -1,7 +1,7 @@
 -- Where a part that a type or an entry is made of is beyond the limits, that type or one of those entries is.
 use Rattle.std.proofs.Common.{◌≡◌, ℕ, ◌+◌, ◌<◌, ◌||◌, List, [], ◌∷◌, ◌++◌, length, map, ap, ◌∙◌, subst as along}
 use Rattle.std.specs.Bool.{IsTrue}
-use Rattle.trees.specs.Measures.{IsBeyond}
+use Rattle.trees.specs.Measures.{depth_limit, IsBeyond}
 use Rattle.trees.proofs.Cutoffs.{subst_list-substitute}
 use Rattle.pc_terms.specs.declared.leaf.FamilyId.{FamilyId}
 use Rattle.pc_terms.specs.Syntax.{Term, Rel, SortT, Ind, Construct, subst_list, apply, variables, shift, put_all, substitute}
@@ -28,7 +28,7 @@ family-arity Ps G s e h =
 abbrev target : FamilyId → ℕ → ℕ → Constructor → Term
 target f p a C = apply (Ind f) (map (shift a 0) (variables p) ++ C.result)
 
-pub constructor-params : (f : FamilyId) (Ps : List Term) (G : Family) (C : Constructor) → 2048 < length Ps → IsTrue (is_beyond (constructor_type f (with_parameters Ps G) C))
+pub constructor-params : (f : FamilyId) (Ps : List Term) (G : Family) (C : Constructor) → depth_limit < length Ps → IsTrue (is_beyond (constructor_type f (with_parameters Ps G) C))
 constructor-params f Ps G C h =
     beyond_is (constructor_type f (with_parameters Ps G) C) (products-long Ps (products C.args (target f (length Ps) (length C.args) C)) h)
 
@@ -39,7 +39,7 @@ constructor-inner f Ps G C a p t e g is h =
     beyond_is (constructor_type f (with_parameters Ps G) C)
     (products-beyond Ps (products C.args (target f (length Ps) (length C.args) C)) (along (λ (u : Term). IsBeyond (products C.args u)) end h))
 
-pub constructor-args : (f : FamilyId) (Ps : List Term) (G : Family) (C : Constructor) → 2048 < length C.args → IsTrue (is_beyond (constructor_type f (with_parameters Ps G) C))
+pub constructor-args : (f : FamilyId) (Ps : List Term) (G : Family) (C : Constructor) → depth_limit < length C.args → IsTrue (is_beyond (constructor_type f (with_parameters Ps G) C))
 constructor-args f Ps G C h =
     beyond_is (constructor_type f (with_parameters Ps G) C)
     (products-beyond Ps (products C.args (target f (length Ps) (length C.args) C)) (products-long C.args (target f (length Ps) (length C.args) C) h))
@@ -57,7 +57,7 @@ constructor-end f Ps G C a p e g h =
 abbrev under : Term → ℕ → List Term → Term
 under h n ps = apply h (map (shift n 0) ps ++ variables n)
 
-pub predicate-count : (f : FamilyId) (Ps : List Term) (G : Family) (ps : List Term) → 2048 < length G.indices → IsTrue (any_beyond (predicate_entries f (with_parameters Ps G) ps))
+pub predicate-count : (f : FamilyId) (Ps : List Term) (G : Family) (ps : List Term) → depth_limit < length G.indices → IsTrue (any_beyond (predicate_entries f (with_parameters Ps G) ps))
 predicate-count f Ps G ps h =
     any_beyond-last (entries_at (put_all ps Rel) G.indices) (under (Ind f) (length G.indices) ps)
     (under-long (Ind f) (map (shift (length G.indices) 0) ps) (length G.indices) h)
@@ -84,7 +84,7 @@ predicate-at ret is t list e h =
 abbrev pub replacements : FamilyId → ℕ → Constructor → List Term → List Term
 replacements f c C ps = result_at C ps ++ (built_at f c C ps ∷ [])
 
-pub branch-count : (f : FamilyId) (c : ℕ) (C : Constructor) (ps : List Term) (ret : Term) → 2048 < length C.args → IsTrue (branch_beyond f c C ps ret)
+pub branch-count : (f : FamilyId) (c : ℕ) (C : Constructor) (ps : List Term) (ret : Term) → depth_limit < length C.args → IsTrue (branch_beyond f c C ps ret)
 branch-count f c C ps ret h =
     or_right (any_beyond (result_at C ps)) (is_beyond (built_at f c C ps) || is_beyond (branch_type f c C ps ret))
     (or_left (is_beyond (built_at f c C ps)) (is_beyond (branch_type f c C ps ret))

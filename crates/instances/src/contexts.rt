@@ -2,9 +2,9 @@
 ghost use Rattle.std.specs.Prelude.{◌≡◌, IfOk, IfErr, IsTrue};
 ghost use Rattle.pc_terms.specs.Lists.{types_of};
 ghost use Rattle.pc_terms.specs.declared.term.MakeFault.TheVariants as make;
+ghost use Rattle.pc_terms.specs.Syntax.{list_of};
 ghost use Rattle.calculus_rules.specs.Context.{extend};
 ghost use Rattle.pc_rules.specs.DirectedRun.{any_beyond};
-ghost use Rattle.calculus_rules.specs.Listed.{list_of};
 ghost use Rattle.pc_rules.specs.DirectedComparison.{lifted_types};
 ghost use Rattle.pc_rules.specs.declared.stop.Stop.TheVariants.{Memory};
 

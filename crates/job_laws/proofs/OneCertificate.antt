@@ -7,6 +7,7 @@ use Rattle.pc_rules.specs.declared.meter.Account.{Account}
 use Rattle.pc_rules.specs.DirectedPlaces.{Outcome, Gives}
 use Rattle.pc_rules.specs.DirectedDeclarations.{first_repeated, first_undeclared_end}
 use Rattle.pc_rules.specs.Entailment.{entailed_by}
+use Rattle.pc_rules.specs.DirectedRun.{most_nested}
 use Rattle.cert_rules.specs.Walk.{Items}
 use Rattle.cert_rules.specs.Writing.{Wrote, wrote}
 use Rattle.cert_rules.specs.MakingDeclarations.{Made, make_constraints, make_declarations, make_graph, make_levels}
@@ -35,7 +36,7 @@ module _ (turns : ℕ) (e : RawEnv) where
   makes_plainly None r u h = h
   makes_plainly (Some q) r u h =
       absurd (no_cycle_makes (first_repeated 0 [] e.levels) (first_undeclared_end (length e.levels) 0 e.constraints) q
-      (make_declarations (length e.levels) e.constraints (entailed_by (length e.levels) e.constraints) 2048 0 [] (givens e) e.main (start turns)) (start turns) u r h)
+      (make_declarations (length e.levels) e.constraints (entailed_by (length e.levels) e.constraints) most_nested 0 [] (givens e) e.main (start turns)) (start turns) u r h)
 
   plainly : (items : Items) (u : Account) (m : IsMakingOf turns e items u) → plain_outcome ≡ Gives (wrote items (m.kept, m.type)) u
   plainly items u m = makes_plainly m.cycle (wrote items (m.kept, m.type)) u m.makes

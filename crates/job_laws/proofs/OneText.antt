@@ -4,10 +4,11 @@ use Rattle.calculus_rules.specs.Environment.{Env}
 use Rattle.calculus_rules.specs.FirstOrder.{Data}
 use Rattle.calculus_rules.specs.Laws.{OneEach}
 use Rattle.calculus_rules.proofs.Spines.{one_item}
+use Rattle.calculus_rules.proofs.Listing.{first_same}
 use Rattle.first_order.specs.declared.shapes.Shape.{Shape}
 use Rattle.first_order.specs.Searching.{AreNamed, members}
 use Rattle.first_order.specs.Texts.{Naming, IsText, alone, with_arguments, AreTexts, no_text, one_text, by_shapes}
-use Rattle.driver.proofs.OneNames.{head_is, shapes_alike}
+use Rattle.driver.proofs.OneNames.{shapes_alike}
 
 -- a node's name and the places of its arguments
 abbrev called : (name js : List ℕ) → Option (List ℕ × List ℕ)
@@ -24,10 +25,10 @@ abbrev node : (c n : ℕ) → Data → Data
 node c n ds = (c, n) ∷ ds
 
 ctor_same : (c n d m : ℕ) (ds es : Data) → node c n ds ≡ node d m es → c ≡ d
-ctor_same c n d m ds es e = ap (λ p. p.0) (head_is {X = ℕ × ℕ} (c, n) (d, m) ds es e)
+ctor_same c n d m ds es e = ap (λ p. p.0) (first_same {A = ℕ × ℕ} {x = (c, n)} {y = (d, m)} e)
 
 count_same : (c n d m : ℕ) (ds es : Data) → node c n ds ≡ node d m es → n ≡ m
-count_same c n d m ds es e = ap (λ p. p.1) (head_is {X = ℕ × ℕ} (c, n) (d, m) ds es e)
+count_same c n d m ds es e = ap (λ p. p.1) (first_same {A = ℕ × ℕ} {x = (c, n)} {y = (d, m)} e)
 
 rest_same : (c n d m : ℕ) (ds es : Data) → node c n ds ≡ node d m es → ds ≡ es
 rest_same c n d m ds es e = cc

@@ -14,8 +14,8 @@ use Rattle.wasm_core.specs.declared.instrs.Instr.TheVariants.{Unreachable, Loop,
 use Rattle.wasm_core.specs.ModuleCondition.{All, IsInstr}
 use Rattle.wasm_core.specs.ShortestBytes.{put_all, put_instr, put_u32}
 use Rattle.anf_convert.specs.declared.program.Atom.{Atom}
-use Rattle.anf_convert.specs.AnfForm.{AtomFits, AtomsFit}
-use Rattle.closure_lift.specs.Lifted.{Op, OConst, OApp, OCon, OClos, OCase, Block, RetAtom, LetAtom, Ret, Let, BranchBlocks, BNil, BCons, Program, many}
+use Rattle.anf_convert.specs.AnfForm.{AtomFits, AtomsFit, fields}
+use Rattle.closure_lift.specs.Lifted.{Op, ConstOp, AppOp, ConOp, ClosOp, CaseOp, Block, TailAtom, BindAtom, Tail, Bind, BranchBlocks, NoBranch, Branch, Program, branch_count}
 use Rattle.closure_lift.specs.LiftedForm.{OpFits, LiftedBlockFits, BranchesFit, Formed, Limits}
 use Rattle.wasm_emit.specs.EmittedCode.{Load, StoreWord, ConstWord, IfWord, IfOnly, CallClosure, ensure_room, constant_index}
 use Rattle.wasm_emit.specs.EmittedLocals.{top, top_op, top_branches}
@@ -269,11 +269,11 @@ b_push : (ws : List Word) → All (WordFits 16384 100000) ws → Bounded (8 * le
 b_push [] h = b_most _ (omega arith) b_none
 b_push (w ∷ ws) h = b_most _ (omega arith) (b_push ws h.1 then b_word 16384 100000 w (omega arith) (omega arith) h.0)
 
-pub b_captured : (n : ℕ) → n < 2049 → Bounded (8 * n) (captured_words n)
+pub b_captured : (n : ℕ) → n < fields → Bounded (8 * n) (captured_words n)
 b_captured zero h = b_most _ (omega arith) b_none
 b_captured (suc n) h = b_most _ (omega arith) (b_captured n (omega arith) then (b_get 0 (omega arith) then b_load (4 * suc n) (omega arith)))
 
-b_params : (n : ℕ) → n < 2049 → Bounded (4 * n + 4) (into_params n)
+b_params : (n : ℕ) → n < fields → Bounded (4 * n + 4) (into_params n)
 b_params zero h = b_most _ (omega arith) (b_set 0 (omega arith))
 b_params (suc n) h = b_most _ (omega arith) (b_set (suc n) (omega arith) then b_params n (omega arith))
 
@@ -289,30 +289,30 @@ module _ (P : Program) (m : ℕ) (form : Formed P m) (counts : CountsFit P m) (l
   b_atom : (n : ℕ) (ps : List Place) (a : Atom) → AtomFits n a → Near ps → Bounded 8 (atom ps a)
   b_atom n ps a fit h = b_read (word_of ps a) (λ w e. b_word 16384 100000 w (omega arith) (omega arith) (word_fits P 16384 n 100000 ps a fit h e))
 
-  b_fill : (n d : ℕ) (ps : List Place) (as' : List Atom) → d < 100000 → length as' < 2049 → AtomsFit n as' → Near ps → Bounded (16 * length as') (fill ps d as')
+  b_fill : (n d : ℕ) (ps : List Place) (as' : List Atom) → d < 100000 → length as' < fields → AtomsFit n as' → Near ps → Bounded (16 * length as') (fill ps d as')
   b_fill n d ps [] hd few fit h = b_most _ (omega arith) b_none
   b_fill n d ps (a ∷ as') hd few fit h =
       b_most _ (omega arith) (b_get d hd then (b_atom n ps a fit.0 h then (b_one {k = 4} (StoreWord (4 * suc (length as'))) (λ r. z_store r (4 * suc (length as')) (omega arith)) (omega arith, omega arith) then b_fill n d ps as' hd (omega arith) fit.1 h)))
 
-  b_new_block : (n d header : ℕ) (ps : List Place) (as' : List Atom) → d < 100000 → header < 4294967296 → length as' < 2049 → AtomsFit n as' → Near ps → Bounded (41 + 16 * length as') (new_block ps d header as')
+  b_new_block : (n d header : ℕ) (ps : List Place) (as' : List Atom) → d < 100000 → header < 4294967296 → length as' < fields → AtomsFit n as' → Near ps → Bounded (41 + 16 * length as') (new_block ps d header as')
   b_new_block n d header ps as' hd hh few fit h =
       b_most _ (omega arith) (b_one {k = 2} (GlobalGet 2) (λ r. z_heap r) (omega arith) then (b_tee d hd then (b_one {k = 4} (ConstWord (4 * suc (length as'))) (λ r. z_small r (4 * suc (length as')) (omega arith)) (omega arith) then (b_one {k = 1} (Operation op32.Add) (λ r. z_op r op32.Add) tt
       then (b_global 2 (omega arith) then (b_ensure then (b_get d hd then (b_const header hh then (b_one {k = 3} (StoreWord 0) (λ r. z_header r) (omega arith, omega arith) then b_fill n d ps as' hd few fit h)))))))))
 
-  b_block : (n d header : ℕ) (ps : List Place) (as' : List Atom) → d < 100000 → header < 4294967296 → length as' < 2049 → AtomsFit n as' → Near ps → Bounded (45 + 16 * length as') (block ps d header as')
+  b_block : (n d header : ℕ) (ps : List Place) (as' : List Atom) → d < 100000 → header < 4294967296 → length as' < fields → AtomsFit n as' → Near ps → Bounded (45 + 16 * length as') (block ps d header as')
   b_block n d header ps as' hd hh few fit h = b_most _ (omega arith) (b_new_block n d header ps as' hd hh few fit h then b_get d hd)
 
   -- an operation whose word comes into a local
   b_bind : {g : List Instr → List Instr} (n d : ℕ) (ps : List Place) (x : Op) → d < 100000 → Near ps → OpFits P.functions (length P.constants) m n x → Bounded (op_weight x) g → Bounded (4 + op_weight x) (into_local ps d x g)
-  b_bind n d ps (OCon c as') hd h fit y = let small = fit.0 in let few = fit.2 in b_most _ (omega arith) (b_new_block n d _ ps as' hd (omega (arith, small, few)) (omega (arith, few)) fit.3 h)
-  b_bind n d ps (OClos g as') hd h fit y =
+  b_bind n d ps (ConOp c as') hd h fit y = let small = fit.0 in let few = fit.2 in b_most _ (omega arith) (b_new_block n d _ ps as' hd (omega (arith, small, few)) (omega (arith, few)) fit.3 h)
+  b_bind n d ps (ClosOp g as') hd h fit y =
       let takes = fit.0 in
       let few = limits.captured g takes.fn takes.at in
       let low = slice_get_within P.functions g takes.fn takes.at in
       b_most _ (omega arith) (b_new_block n d (suc g) ps as' hd (omega (arith, low, limits.few)) (omega (arith, few, takes.words)) fit.1 h)
-  b_bind n d ps (OConst x) hd h fit y = b_most _ (omega arith) (y then b_set d hd)
-  b_bind n d ps (OApp f a) hd h fit y = b_most _ (omega arith) (y then b_set d hd)
-  b_bind n d ps (OCase a bs) hd h fit y = b_most _ (omega arith) (y then b_set d hd)
+  b_bind n d ps (ConstOp x) hd h fit y = b_most _ (omega arith) (y then b_set d hd)
+  b_bind n d ps (AppOp f a) hd h fit y = b_most _ (omega arith) (y then b_set d hd)
+  b_bind n d ps (CaseOp a bs) hd h fit y = b_most _ (omega arith) (y then b_set d hd)
 
   b_jump : (b : Bool) (g h n depth : ℕ) → jumps g h depth ≡ b → n ≤ 7 → worker_index P g < 2097152 → Bounded 38 (λ r. if b then into_params n (Br depth ∷ r) else (ReturnCall (worker_index P g) ∷ r))
   b_jump true g h n depth e few low =
@@ -336,8 +336,8 @@ module _ (P : Program) (m : ℕ) (form : Formed P m) (counts : CountsFit P m) (l
 
   -- the bytes of a match's branches
   branches_weight_is : (ps : List Place) (d c : ℕ) (bs : BranchBlocks) → all_weight (alternatives P ps d c bs) ≡ branches_weight bs
-  branches_weight_is ps d c BNil = refl
-  branches_weight_is ps d c (BCons n t bs) = omega (arith, branches_weight_is ps d (suc c) bs)
+  branches_weight_is ps d c NoBranch = refl
+  branches_weight_is ps d c (Branch n t bs) = omega (arith, branches_weight_is ps d (suc c) bs)
 
   b_choice : (o : Option Place) {k : ℕ} {g : Place → List Instr → List Instr} {f : List Instr → List Instr} → ((q : Place) → o ≡ Some q → Bounded k (g q)) → Bounded k f → Bounded k (λ r. choose o (λ q. g q r) (f r))
   b_choice None x y = y
@@ -345,29 +345,29 @@ module _ (P : Program) (m : ℕ) (form : Formed P m) (counts : CountsFit P m) (l
 
   mutual
     pub b_op : (n d : ℕ) (ps : List Place) (at : Position) (x : Op) → top_op d x < 100000 → Near ps → OpFits P.functions (length P.constants) m n x → Bounded (op_weight x) (op P ps d at x)
-    b_op n d ps at (OConst x) le h fit = b_call_of at (constant_index P x) (omega (arith, limits.few, counts.constants, fit))
-    b_op n d ps at (OApp f a) le h fit = b_application n ps at f a (known_function ps f) refl fit.0 fit.1 h
-    b_op n d ps at (OCon c as') le h fit = let small = fit.0 in let few = fit.2 in b_block n d _ ps as' (omega arith) (omega (arith, small, few)) (omega (arith, few)) fit.3 h
-    b_op n d ps at (OClos g as') le h fit =
+    b_op n d ps at (ConstOp x) le h fit = b_call_of at (constant_index P x) (omega (arith, limits.few, counts.constants, fit))
+    b_op n d ps at (AppOp f a) le h fit = b_application n ps at f a (known_function ps f) refl fit.0 fit.1 h
+    b_op n d ps at (ConOp c as') le h fit = let small = fit.0 in let few = fit.2 in b_block n d _ ps as' (omega arith) (omega (arith, small, few)) (omega (arith, few)) fit.3 h
+    b_op n d ps at (ClosOp g as') le h fit =
         let takes = fit.0 in
         let few = limits.captured g takes.fn takes.at in
         let low = slice_get_within P.functions g takes.fn takes.at in
         b_block n d (suc g) ps as' (omega arith) (omega (arith, low, limits.few)) (omega (arith, few, takes.words)) fit.1 h
-    b_op n d ps at (OCase a bs) le h fit =
+    b_op n d ps at (CaseOp a bs) le h fit =
         b_most _ (omega (arith, branches_weight_is ps d 0 bs)) (b_atom n ps a fit.0 h then (b_set d (omega arith) then b_tests d (omega arith) (alternatives P ps d 0 bs) (b_alternatives n d ps 0 bs (omega arith) (omega (arith, fit.1)) h fit.2) at))
 
     pub b_code : (n d : ℕ) (ps : List Place) (at : Position) (t : Block) → top d t < 100000 → Near ps → LiftedBlockFits P.functions (length P.constants) m n t → Bounded (weight t) (code P ps d at t)
-    b_code n d ps at (RetAtom a) le h fit = b_atom n ps a fit h
-    b_code n d ps at (LetAtom a t) le h fit = b_most _ (omega arith) (b_atom n ps a fit.0 h then (b_set d (omega arith) then b_code (suc n) (suc d) (At (InLocal d) ∷ ps) at t (omega arith) (omega arith, h) fit.1))
-    b_code n d ps at (Ret x) le h fit = b_op n d ps at x le h fit
-    b_code n d ps at (Let x t) le h fit =
+    b_code n d ps at (TailAtom a) le h fit = b_atom n ps a fit h
+    b_code n d ps at (BindAtom a t) le h fit = b_most _ (omega arith) (b_atom n ps a fit.0 h then (b_set d (omega arith) then b_code (suc n) (suc d) (At (InLocal d) ∷ ps) at t (omega arith) (omega arith, h) fit.1))
+    b_code n d ps at (Tail x) le h fit = b_op n d ps at x le h fit
+    b_code n d ps at (Bind x t) le h fit =
         b_choice (unmade P ps x t) {g = λ q. code P (q ∷ ps) d at t}
         (λ q e. let z = unmade_some (is_read (block_reads 0 t)) (known P ps x) e in b_most _ (omega arith) (b_code (suc n) d (q ∷ ps) at t (omega (arith, top_less d t)) (known_fits P 16384 m form n 100000 ps x fit.0 h z.1, h) fit.1))
         (b_most _ (omega arith) (b_bind n d ps x (omega arith) h fit.0 (b_op n d ps Inside x (omega arith) h fit.0) then (b_code (suc n) (suc d) (At (InLocal d) ∷ ps) at t (omega arith) (omega arith, h) fit.1)))
 
-    b_alternatives : (n d : ℕ) (ps : List Place) (c : ℕ) (bs : BranchBlocks) → max (suc d) (top_branches (suc d) bs) < 100000 → c + many bs ≤ m → Near ps → BranchesFit P.functions (length P.constants) m n bs → AllLight (alternatives P ps d c bs)
-    b_alternatives n d ps c BNil le few h fit = tt
-    b_alternatives n d ps c (BCons j t bs) le few h fit =
+    b_alternatives : (n d : ℕ) (ps : List Place) (c : ℕ) (bs : BranchBlocks) → max (suc d) (top_branches (suc d) bs) < 100000 → c + branch_count bs ≤ m → Near ps → BranchesFit P.functions (length P.constants) m n bs → AllLight (alternatives P ps d c bs)
+    b_alternatives n d ps c NoBranch le few h fit = tt
+    b_alternatives n d ps c (Branch j t bs) le few h fit =
         let low = fit.0 in (
           record {
             low = omega (arith, counts.branches, few);

@@ -2,16 +2,17 @@
 use Rattle.std.proofs.Common.{◌≡◌, ℕ, zero, suc, ◌*◌, ◌<◌, ◌≤◌, List, [], ◌∷◌, length, Option, Some, None, Bool, true, false, refl, ap, sym, subst, arith}
 use Rattle.std.specs.Prelude.{slice_get}
 use Rattle.std.specs.Option.{option_and_then}
+use Rattle.std.proofs.lemmas.Option.{same_Some}
 use Rattle.anf_convert.specs.declared.program.Atom.{Atom}
 use Rattle.anf_convert.specs.declared.program.Atom.TheVariants.{Var as AVar, Box as ABox, Empty as AEmpty}
 use Rattle.anf_convert.specs.AnfForm.{AtomFits, AtomsFit}
-use Rattle.closure_lift.specs.Lifted.{Op, OConst, OApp, OCon, OClos, OCase, Block, RetAtom, LetAtom, Ret, Let, Program}
+use Rattle.closure_lift.specs.Lifted.{Op, ConstOp, AppOp, ConOp, ClosOp, CaseOp, Block, TailAtom, BindAtom, Tail, Bind, Program}
 use Rattle.closure_lift.specs.LiftedForm.{IsMadeWith, OpFits, LiftedBlockFits, Formed}
 use Rattle.wasm_core.specs.ModuleCondition.{All}
 use Rattle.known_calls.specs.KnownPlaces.{Word, InLocal, InField, IsConst, Place, At, Known, word_at, word_of, words_of, all_at, fields_of, known_at, known_function}
 use Rattle.known_calls.specs.KnownCode.{known_closure, closure_alone, known, branch_places}
 use Rattle.known_calls.specs.KnownModule.{params}
-use Rattle.known_calls.proofs.Finding.{same_some, split}
+use Rattle.known_calls.proofs.Finding.{split}
 use Rattle.known_calls.proofs.Knowing.{closed, opened}
 
 -- a word in a local below d, or in a field at an offset below far
@@ -60,26 +61,26 @@ module _ (P : Program) (far : ℕ) where
 
   pub at_place : (d : ℕ) (ps : List Place) (i : ℕ) {p : Place} → All (PlaceFits d) ps → slice_get ps i ≡ Some p → PlaceFits d p
   at_place d [] i h e = cc
-  at_place d (p ∷ ps) zero h e = subst (PlaceFits d) (same_some e) h.0
+  at_place d (p ∷ ps) zero h e = subst (PlaceFits d) (same_Some _ _ e) h.0
   at_place d (p ∷ ps) (suc i) h e = at_place d ps i h.1 e
 
   at_word : (d : ℕ) (o : Option Place) {w : Word} → ((p : Place) → o ≡ Some p → PlaceFits d p) → option_and_then word_at o ≡ Some w → WordFits far d w
   at_word d None h e = cc
-  at_word d (Some (At w)) h e = subst (WordFits far d) (same_some e) (h (At w) refl)
+  at_word d (Some (At w)) h e = subst (WordFits far d) (same_Some _ _ e) (h (At w) refl)
   at_word d (Some (Known g ws)) h e = cc
 
   -- the word of an atom
   pub word_fits : (n d : ℕ) (ps : List Place) (a : Atom) {w : Word} → AtomFits n a → All (PlaceFits d) ps → word_of ps a ≡ Some w → WordFits far d w
   word_fits n d ps (AVar i) fit h e = at_word d (slice_get ps i) (λ p at. at_place d ps i h at) e
-  word_fits n d ps ABox fit h e = subst (WordFits far d) (same_some e) (omega arith)
-  word_fits n d ps (AEmpty c) fit h e = subst (WordFits far d) (same_some e) (omega (arith, fit))
+  word_fits n d ps ABox fit h e = subst (WordFits far d) (same_Some _ _ e) (omega arith)
+  word_fits n d ps (AEmpty c) fit h e = subst (WordFits far d) (same_Some _ _ e) (omega (arith, fit))
 
   record WordsFit (d : ℕ) (as' : List Atom) (ws : List Word) : Type 0 where
     same : length ws ≡ length as'
     all : All (WordFits far d) ws
 
   words_fit : (n d : ℕ) (ps : List Place) (as' : List Atom) {ws : List Word} → AtomsFit n as' → All (PlaceFits d) ps → words_of ps as' ≡ Some ws → WordsFit d as' ws
-  words_fit n d ps [] fit h e = subst (WordsFit d []) (same_some e) (record { same = refl; all = tt })
+  words_fit n d ps [] fit h e = subst (WordsFit d []) (same_Some _ _ e) (record { same = refl; all = tt })
   words_fit n d ps (a ∷ as') fit h e =
       let s = split (word_of ps a) (words_of ps as') e in
       let r = words_fit n d ps as' fit.1 h s.more in
@@ -93,19 +94,19 @@ module _ (P : Program) (far : ℕ) where
 
   module _ (most : ℕ) (form : Formed P most) where
     alone_fits : (n d : ℕ) (ps : List Place) (t : Block) {q : Place} → LiftedBlockFits P.functions (length P.constants) most n t → All (PlaceFits d) ps → closure_alone ps t ≡ Some q → PlaceFits d q
-    alone_fits n d ps (Ret (OClos g as')) fit h e = clos_fits n d ps g as' fit.0 fit.1 h e
-    alone_fits n d ps (Ret (OConst x)) fit h e = cc
-    alone_fits n d ps (Ret (OApp f a)) fit h e = cc
-    alone_fits n d ps (Ret (OCon c as')) fit h e = cc
-    alone_fits n d ps (Ret (OCase a bs)) fit h e = cc
-    alone_fits n d ps (RetAtom a) fit h e = cc
-    alone_fits n d ps (LetAtom a t) fit h e = cc
-    alone_fits n d ps (Let x t) fit h e = cc
+    alone_fits n d ps (Tail (ClosOp g as')) fit h e = clos_fits n d ps g as' fit.0 fit.1 h e
+    alone_fits n d ps (Tail (ConstOp x)) fit h e = cc
+    alone_fits n d ps (Tail (AppOp f a)) fit h e = cc
+    alone_fits n d ps (Tail (ConOp c as')) fit h e = cc
+    alone_fits n d ps (Tail (CaseOp a bs)) fit h e = cc
+    alone_fits n d ps (TailAtom a) fit h e = cc
+    alone_fits n d ps (BindAtom a t) fit h e = cc
+    alone_fits n d ps (Bind x t) fit h e = cc
 
     at_known : (d : ℕ) (o : Option Place) {k : ℕ × List Word} → ((p : Place) → o ≡ Some p → PlaceFits d p) → option_and_then known_at o ≡ Some k → PlaceFits d (Known k.0 k.1)
     at_known d None h e = cc
     at_known d (Some (At w)) h e = cc
-    at_known d (Some (Known g ws)) h e = subst (λ (k : ℕ × List Word). PlaceFits d (Known k.0 k.1)) (same_some e) (h (Known g ws) refl)
+    at_known d (Some (Known g ws)) h e = subst (λ (k : ℕ × List Word). PlaceFits d (Known k.0 k.1)) (same_Some _ _ e) (h (Known g ws) refl)
 
     -- a known function
     pub function_fits : (d : ℕ) (ps : List Place) (f : Atom) {k : ℕ × List Word} → All (PlaceFits d) ps → known_function ps f ≡ Some k → PlaceFits d (Known k.0 k.1)
@@ -119,11 +120,11 @@ module _ (P : Program) (far : ℕ) where
 
     -- what an operation is known to give
     pub known_fits : (n d : ℕ) (ps : List Place) (p : Op) {q : Place} → OpFits P.functions (length P.constants) most n p → All (PlaceFits d) ps → known P ps p ≡ Some q → PlaceFits d q
-    known_fits n d ps (OConst x) fit h e = const_fits d x (slice_get P.constants x) refl e
-    known_fits n d ps (OApp f a) fit h e =
+    known_fits n d ps (ConstOp x) fit h e = const_fits d x (slice_get P.constants x) refl e
+    known_fits n d ps (AppOp f a) fit h e =
         let o = opened P (known_function ps f) (word_of ps a) e in
         let k = function_fits d ps f h o.is in
         alone_fits (suc o.fn.captured) d (At o.a ∷ all_at o.k.1) o.fn.body (form.functions o.k.0 o.fn o.at) (word_fits n d ps a fit.1 h o.argument, all_fit d o.k.1 k.2) o.alone
-    known_fits n d ps (OCon c as') fit h e = cc
-    known_fits n d ps (OClos g as') fit h e = clos_fits n d ps g as' fit.0 fit.1 h e
-    known_fits n d ps (OCase a bs) fit h e = cc
+    known_fits n d ps (ConOp c as') fit h e = cc
+    known_fits n d ps (ClosOp g as') fit h e = clos_fits n d ps g as' fit.0 fit.1 h e
+    known_fits n d ps (CaseOp a bs) fit h e = cc

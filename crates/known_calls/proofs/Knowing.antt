@@ -1,6 +1,7 @@
 -- An operation that is known gives the closure that it is known to be.
 use Rattle.std.proofs.Common.{◌≡◌, ℕ, ◌≤◌, List, [], ◌∷◌, length, Option, Some, None, Bool, true, false, refl, ap, sym, ◌∙◌, subst}
 use Rattle.std.proofs.lemmas.Bool.{leb-true}
+use Rattle.std.proofs.lemmas.Option.{none-some, same_Some}
 use Rattle.std.specs.Prelude.{slice_get, nat_le, if◌then◌else◌}
 use Rattle.std.specs.Option.{option_and_then}
 use Rattle.wasm_core.specs.declared.types.ConstValue.{ConstValue}
@@ -9,7 +10,7 @@ use Rattle.wasm_emit.proofs.Source.{Atom, Op, Block, Fn, Program, Val, VBox, VCl
 use Rattle.known_calls.specs.KnownPlaces.{Word, Place, At, Known, word_of, words_of, all_at, known_at, known_function}
 use Rattle.known_calls.specs.KnownCode.{known_closure, closure_alone, partial, known}
 use Rattle.known_calls.proofs.KnownHolds.{Words, Env, env_nil, env_at}
-use Rattle.known_calls.proofs.Finding.{same_some, Held, held_word, held_known, held, is_at, words_are, all_env}
+use Rattle.known_calls.proofs.Finding.{Held, held_word, held_known, held, is_at, words_are, all_env}
 
 -- the closure that makes a place known
 pub record Closed (g : ℕ) (r : Option (List Word)) (q : Place) : Type 0 where
@@ -19,7 +20,7 @@ pub record Closed (g : ℕ) (r : Option (List Word)) (q : Place) : Type 0 where
   pub few : length ws ≤ 7
 
 closed_if : (g : ℕ) (ws : List Word) (b : Bool) {q : Place} → nat_le (length ws) 7 ≡ b → (if b then Some (Known g ws) else None) ≡ Some q → Closed g (Some ws) q
-closed_if g ws true few e = record { ws = ws; all = refl; is = same_some e; few = leb-true (length ws) 7 few }
+closed_if g ws true few e = record { ws = ws; all = refl; is = same_Some _ _ e; few = leb-true (length ws) 7 few }
 closed_if g ws false few e = cc
 
 pub closed : (g : ℕ) (r : Option (List Word)) {q : Place} → known_closure g r ≡ Some q → Closed g r q
@@ -81,12 +82,9 @@ module _ (P : Program) (m : Mem) (limit : ℕ) (ls : List ConstValue) (d : ℕ) 
     pub words : Words m limit ls d k.1 cs
 
   calls_held : {ps : List Place} {i : ℕ} {v : Val} {k : ℕ × List Word} → Held m limit ls d ps i v → option_and_then known_at (slice_get ps i) ≡ Some k → Calls k v
-  calls_held {k = k} (held_word {p = p} w at r s) e = absurd (none_some (sym (ap (option_and_then known_at) at) ∙ e))
-    where
-      none_some : ◌≡◌ {A = Option (ℕ × List Word)} None (Some k) → ⊥
-      none_some x = cc
+  calls_held {k = k} (held_word {p = p} w at r s) e = absurd (none-some k (sym (ap (option_and_then known_at) at) ∙ e))
   calls_held {v = v} {k = k} (held_known {g = g} {ws = ws} {cs = cs} at is few words) e =
-      let same : ◌≡◌ {A = ℕ × List Word} (g, ws) k = same_some (sym (ap (option_and_then known_at) at) ∙ e) in
+      let same : ◌≡◌ {A = ℕ × List Word} (g, ws) k = same_Some _ _ (sym (ap (option_and_then known_at) at) ∙ e) in
       subst (λ x. Calls x v) same (record { cs = cs; value = is; few = few; words = words })
 
   pub calls : {ps : List Place} {e : Vals} {f : Atom} {v : Val} {k : ℕ × List Word} → Env m limit ls d ps e → Is e f v → known_function ps f ≡ Some k → Calls k v
@@ -111,7 +109,7 @@ module _ (P : Program) (m : Mem) (limit : ℕ) (ls : List ConstValue) (d : ℕ) 
       let o = opened P (known_function ps f) (word_of ps a) e in
       let call = calls env isf o.is in
       let argument = is_at m limit ls d env isa o.argument in
-      let function : o.fn ≡ fn = same_some (sym o.at ∙ ap (slice_get P.functions) (sym (same_function call.value)) ∙ at) in
+      let function : o.fn ≡ fn = same_Some _ _ (sym o.at ∙ ap (slice_get P.functions) (sym (same_function call.value)) ∙ at) in
       let inner : Env m limit ls d (At o.a ∷ all_at o.k.1) (VCons v e') = env_at argument.w argument.reads argument.stands (subst (Env m limit ls d (all_at o.k.1)) (sym (same_captured call.value)) (all_env m limit ls d call.words)) in
       alone_known inner body (sym (ap (λ (x : Fn). closure_alone (At o.a ∷ all_at o.k.1) x.body) function) ∙ o.alone)
   known_is {ps = ps} env (do_box_app {f = f} {a = a} isf isa) e =

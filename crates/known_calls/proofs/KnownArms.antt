@@ -2,10 +2,10 @@
 use Rattle.std.proofs.Common.{◌≡◌, ℕ, zero, suc, ◌+◌, ◌*◌, ◌/◌, ◌<◌, ◌≤◌, List, [], ◌∷◌, ◌++◌, length, take, drop, get_or, Bool, true, false, refl, ap, sym, ◌∙◌, arith}
 use Rattle.std.proofs.Math.Seq.{take-append_seam, drop-append_seam}
 use Rattle.std.proofs.lemmas.List.{drop_all, take_more}
-use Rattle.std.proofs.lemmas.Bool.{and_parts, eqb-true, le-leb, lt-leb, leb-true, leb-false}
+use Rattle.std.proofs.lemmas.Bool.{and_parts, eqb-true, le-leb, lt-leb, leb-true, leb-false, false≢true}
 use Rattle.std.specs.Prelude.{if◌then◌else◌, nat_eq, nat_le, nat_lt, ◌||◌, ◌&&◌}
 use Rattle.anf_convert.specs.declared.program.Atom.{Atom}
-use Rattle.closure_lift.specs.Lifted.{OCase, BranchBlocks, OpBound}
+use Rattle.closure_lift.specs.Lifted.{CaseOp, BranchBlocks, OpIs}
 use Rattle.closure_lift.specs.LiftedView.{branches_of}
 use Rattle.closure_lift.specs.LiftedWeight.{branches_weight}
 use Rattle.closure_lift.specs.declared.program.Lifted.{Lifted}
@@ -22,9 +22,6 @@ use Rattle.known_calls.specs.KnownCode.{atom}
 use Rattle.known_calls.specs.KnownPushed.{under_position, op_code, branch_code, alternative_of, kind_of, search_code, alone_code, few_bare_code, both_kinds_code, branches_code, counted, count_of, begins_with, is_last_of, TestedArms, ToldArms, OneArm}
 use Rattle.known_calls.proofs.KnownPushing.{under_one, under_none, under_sum}
 use Rattle.trees.proofs.Lists.{next_is}
-
-differ : false ≡ true → ⊥
-differ e = cc
 
 -- Which branches are kept.
 
@@ -50,13 +47,13 @@ last_is k n more e = both (is_of k n) (count_of k more) refl e
   where
     both : (b : Bool) (m : ℕ) → is_of k n ≡ b → b && nat_eq m 0 ≡ true → (is_of k n ≡ true) × (m ≡ 0)
     both true m is e = (is, eqb-true m 0 e)
-    both false m is e = absurd (differ e)
+    both false m is e = absurd (false≢true e)
 
 pub last_not : (k : Kind) (n : ℕ) (more : BranchBlocks) → is_last_of k n more ≡ false → is_of k n ≡ true → 0 < count_of k more
 last_not k n more e is = one (count_of k more) (ap (λ (b : Bool). b && nat_eq (count_of k more) 0) (sym is) ∙ e)
   where
     one : (m : ℕ) → true && nat_eq m 0 ≡ false → 0 < m
-    one zero e = absurd (differ (sym e))
+    one zero e = absurd (false≢true (sym e))
     one (suc m) e = omega arith
 
 -- a part that is told by halves, and one that isn't
@@ -288,7 +285,7 @@ below_pushed d c word o0 o1 o2 o3 o4 o5 o6 e x0 x1 x2 x3 x4 x5 = record { is = i
         x5.is rest ∙ x4.is i5 ∙ x3.is i4 ∙ x2.is i3 ∙ x1.is i2 ∙ x0.is i1 ∙ ap (λ (k : ℕ). o0 ++ (ConstWord k ∷ i1)) w
 
 -- A match was pushed.
-pub case_pushed : (Q : Lifted) (env : List Place) (d : ℕ) (at : Position) (a : Atom) (bs : BranchBlocks) (o0 o1 o2 o3 : List Instr) → Pushed o0 o1 (atom env a) → Pushed o1 o2 (λ rest. LocalSet d ∷ rest) → Pushed o2 o3 (branches_code Q env d at bs) → Pushed o0 o3 (op_code Q env d at (OpBound (OCase a bs)))
+pub case_pushed : (Q : Lifted) (env : List Place) (d : ℕ) (at : Position) (a : Atom) (bs : BranchBlocks) (o0 o1 o2 o3 : List Instr) → Pushed o0 o1 (atom env a) → Pushed o1 o2 (λ rest. LocalSet d ∷ rest) → Pushed o2 o3 (branches_code Q env d at bs) → Pushed o0 o3 (op_code Q env d at (OpIs (CaseOp a bs)))
 case_pushed Q env d at a bs o0 o1 o2 o3 x y z = record { is = λ rest. z.is rest ∙ y.is (branches_code Q env d at bs rest) ∙ x.is (LocalSet d ∷ branches_code Q env d at bs rest) }
 
 -- The branches of a match.

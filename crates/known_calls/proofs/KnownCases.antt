@@ -1,6 +1,6 @@
 -- What emitted code yields, and matches.
 use Rattle.std.proofs.Common.{◌≡◌, ℕ, zero, suc, ◌+◌, ◌*◌, ◌/◌, ◌%◌, ◌^◌, ◌<◌, ◌≤◌, List, [], ◌∷◌, length, length-take-le, length-drop, take, drop, Some, Bool, true, false, refl, ap, sym, ◌∙◌, subst, arith}
-use Rattle.std.proofs.lemmas.Bool.{leb-true}
+use Rattle.std.proofs.lemmas.Bool.{leb-true, false≢true}
 use Rattle.std.proofs.lemmas.Nat.{and_mask}
 use Rattle.std.specs.Prelude.{slice_get, ◌||◌, if◌then◌else◌, bit_and}
 use Rattle.wasm_core.specs.declared.instrs.I32Op.TheVariants as op32
@@ -16,7 +16,7 @@ use Rattle.wasm_core.specs.Parts.{Parts}
 use Rattle.wasm_core.specs.MachineStep.{BlockLabel, State, after_end, else_arm}
 use Rattle.wasm_core.proofs.Rules.{Around}
 use Rattle.wasm_emit.specs.EmittedCode.{IfWord}
-use Rattle.wasm_emit.proofs.Source.{Block, BranchBlocks, BNil, BCons, Program, Val, many, BranchAt, branch_here, branch_after}
+use Rattle.wasm_emit.proofs.Source.{Block, BranchBlocks, NoBranch, Branch, Program, Val, branch_count, BranchAt, branch_here, branch_after}
 use Rattle.wasm_emit.proofs.Bytes.{Mem, at_zero}
 use Rattle.wasm_emit.proofs.Values.{Stands}
 use Rattle.wasm_emit.proofs.Holds.{Same, Keeps}
@@ -29,9 +29,6 @@ use Rattle.known_calls.proofs.KnownHolds.{Stood, stood_up, stood_deeper}
 use Rattle.known_calls.proofs.Parted.{OfKind, kept_of_kind, kept_sizes, all_kept, all_take, all_drop, Ordered, ordered_kept, ordered_take, ordered_drop, Among, among_first, among_later, among_some, among_from, among_kept, side_of, Side, before, behind}
 use Rattle.known_calls.proofs.Shapes.{Wherever, AllShaped, shaped_none, shaped_chain, shaped_search}
 
-differ : false ≡ true → ⊥
-differ e = cc
-
 or_true : (a : Bool) {b : Bool} → b ≡ true → a || b ≡ true
 or_true true e = refl
 or_true false e = e
@@ -39,12 +36,12 @@ or_true false e = e
 -- The branches of a match, as alternatives.
 module _ (P : Program) (ps : List Place) (d : ℕ) where
   pub ordered_all : (c : ℕ) (bs : BranchBlocks) → Ordered c (alternatives P ps d c bs)
-  ordered_all c BNil = tt
-  ordered_all c (BCons n t bs) = (omega arith, ordered_all (suc c) bs)
+  ordered_all c NoBranch = tt
+  ordered_all c (Branch n t bs) = (omega arith, ordered_all (suc c) bs)
 
-  pub all_sizes : (c : ℕ) (bs : BranchBlocks) → length (alternatives P ps d c bs) ≡ many bs
-  all_sizes c BNil = refl
-  all_sizes c (BCons n t bs) = omega (arith, all_sizes (suc c) bs)
+  pub all_sizes : (c : ℕ) (bs : BranchBlocks) → length (alternatives P ps d c bs) ≡ branch_count bs
+  all_sizes c NoBranch = refl
+  all_sizes c (Branch n t bs) = omega (arith, all_sizes (suc c) bs)
 
   -- branch number i
   abbrev pub branch_is : ℕ → ℕ → Block → Alternative
@@ -134,7 +131,7 @@ module _ (P : Program) (M : Parts) (cap : Limits) (Q : State → Type 0) where
     -- a word that isn't that of constructor c without arguments
     other_word : (c n : ℕ) → is_of Bare n ≡ true → (w ≡ 2 * c + 1 → ⊥) → Says m p h ls 4 0 (equal_test d c n)
     other_word c zero e differs = record { run = λ f vals rest l u deep k. looser M cap Q (r_get M cap Q deep is_at (r_const M cap Q deep (2 * c + 1) (r_eq_no M cap Q deep differs k))) (omega arith) (omega arith) }
-    other_word c (suc n) e differs = absurd (differ e)
+    other_word c (suc n) e differs = absurd (false≢true e)
 
     pub tells_bare : (a : Alternative) → a.binders ≡ 0 → w ≡ 2 * a.number + 1 → Tells Bare m p h ls d a
     tells_bare a plain is = record {
@@ -176,7 +173,7 @@ module _ (P : Program) (M : Parts) (cap : Limits) (Q : State → Type 0) where
         }
 
         other : (c n : ℕ) → is_of Fielded n ≡ true → c < a.number → Says m p h ls 4 0 (equal_test d c n)
-        other c zero e lt = absurd (differ e)
+        other c zero e lt = absurd (false≢true e)
         other c (suc n) e lt = record {
           run = λ f vals rest l u deep k. looser M cap Q (r_get M cap Q deep is_at (r_load M cap Q deep (omega (arith, within)) (r_const M cap Q deep (suc n * 65536 + c) (r_eq_no M cap Q deep (λ z. omega (arith, z, head, lt, small)) k)))) (omega arith) (omega arith);
         }
@@ -295,7 +292,7 @@ module _ (P : Program) (M : Parts) (cap : Limits) (Q : State → Type 0) where
           (λ both. gives_either (are_many bare) _ _ at
           (λ many. more_steps _ (omega (arith, sizes)) (arm_second {g1 = search Bare d most_rounds bare} {g2 = search Fielded d most_rounds fielded} (says_block m p h ls d w is_at q even) (shaped_search Bare d most_rounds bare f1) x at))
           (λ few. more_steps _ (omega (arith, sizes)) (chain_passed bare (search Fielded d most_rounds fielded) (none_bare q even bare (kept_of_kind Bare as')) f1 x at)))
-          (λ alone. absurd (differ (sym alone ∙ among_some (among_kept Fielded e here))))
+          (λ alone. absurd (false≢true (sym alone ∙ among_some (among_kept Fielded e here))))
         where
           bound : (j : ℕ) → 0 < j → is_of Fielded j ≡ true
           bound zero lt = absurd (omega arith)

@@ -5,7 +5,7 @@ use Rattle.std.proofs.lemmas.List.{reverse-append, take_more, take-append-drop}
 use Rattle.std.specs.Prelude.{slice_get, nat_le, if◌then◌else◌, map, Result, Ok, Err, IfOk}
 use Rattle.std.specs.Option.{option_map, option_and_then}
 use Rattle.anf_convert.specs.declared.program.Atom.{Atom}
-use Rattle.closure_lift.specs.Lifted.{OConst, OApp, OCon, OClos, OCase, Block, RetAtom, LetAtom, Ret, Let, Fn, Bound, AtomBound, OpBound, lets_of}
+use Rattle.closure_lift.specs.Lifted.{ConstOp, AppOp, ConOp, ClosOp, CaseOp, Block, TailAtom, BindAtom, Tail, Bind, Fn, Bound, AtomIs, OpIs, block_of}
 use Rattle.closure_lift.specs.LiftedProgram.{renumber, renumber_functions}
 use Rattle.closure_lift.specs.LiftedView.{bounds_of, functions_of}
 use Rattle.closure_lift.specs.declared.program.LiftedOp.{LiftedOp}
@@ -74,20 +74,20 @@ pub no_words : (env : List Place) (g : ℕ) (as' : List Atom) → words_of env a
 no_words env g as' e = ap (λ (o : Option (List Word)). known_closure g o) e
 
 -- a block that binds something is no closure alone
-pub binds_first : (env : List Place) (xs : List Bound) (t : Block) → 0 < length xs → closure_alone env (lets_of xs t) ≡ None
+pub binds_first : (env : List Place) (xs : List Bound) (t : Block) → 0 < length xs → closure_alone env (block_of xs t) ≡ None
 binds_first env [] t some = absurd (omega arith)
-binds_first env (AtomBound a ∷ xs) t some = refl
-binds_first env (OpBound x ∷ xs) t some = refl
+binds_first env (AtomIs a ∷ xs) t some = refl
+binds_first env (OpIs x ∷ xs) t some = refl
 
 pub alone_renumbered : (f : ℕ → ℕ) (env : List Place) (t : Block) → closure_alone env (renumber f t) ≡ closure_alone env t
-alone_renumbered f env (RetAtom a) = refl
-alone_renumbered f env (LetAtom a t) = refl
-alone_renumbered f env (Ret (OConst x)) = refl
-alone_renumbered f env (Ret (OApp g a)) = refl
-alone_renumbered f env (Ret (OCon c as')) = refl
-alone_renumbered f env (Ret (OClos g as')) = refl
-alone_renumbered f env (Ret (OCase a bs)) = refl
-alone_renumbered f env (Let x t) = refl
+alone_renumbered f env (TailAtom a) = refl
+alone_renumbered f env (BindAtom a t) = refl
+alone_renumbered f env (Tail (ConstOp x)) = refl
+alone_renumbered f env (Tail (AppOp g a)) = refl
+alone_renumbered f env (Tail (ConOp c as')) = refl
+alone_renumbered f env (Tail (ClosOp g as')) = refl
+alone_renumbered f env (Tail (CaseOp a bs)) = refl
+alone_renumbered f env (Bind x t) = refl
 
 -- function g of a program in memory
 function_absent : (f : ℕ → ℕ) (items : List Function) (g : ℕ) → length items ≤ g → slice_get (renumber_functions f (functions_of items)) g ≡ None
@@ -125,7 +125,7 @@ bounds_count : (ops : List LiftedOp) → length (bounds_of ops) ≡ length ops
 bounds_count [] = refl
 bounds_count (o ∷ ops) = ap suc (bounds_count ops)
 
-pub alone_not : (env : List Place) (ops : List LiftedOp) (ps : List Bound) (t b : Block) → 0 < length ops → bounds_of ops ≡ ps → lets_of ps t ≡ b → None ≡ closure_alone env b
+pub alone_not : (env : List Place) (ops : List LiftedOp) (ps : List Bound) (t b : Block) → 0 < length ops → bounds_of ops ≡ ps → block_of ps t ≡ b → None ≡ closure_alone env b
 alone_not env ops ps t b some same whole = sym (ap (λ (z : Block). closure_alone env z) (sym whole) ∙ binds_first env ps t (omega (arith, some, bounds_count ops, ap length same)))
 
 -- what was found is the same as this

@@ -2,8 +2,9 @@
 use Rattle.std.proofs.Common.{◌≡◌, ℕ, zero, suc, ◌+◌, ◌-◌, ◌*◌, ◌<◌, ◌≤◌, List, [], ◌∷◌, ◌++◌, length, length-append, Option, Some, None, Bool, true, false, refl, ap, sym, ◌∙◌, subst, arith}
 use Rattle.std.proofs.lemmas.Bool.{and_parts, eqb-true}
 use Rattle.std.proofs.lemmas.List.{length-reverse}
-use Rattle.std.proofs.lemmas.Option.{slice_get_within, slice_get-get_or}
+use Rattle.std.proofs.lemmas.Option.{same_Some, slice_get_within, slice_get-get_or}
 use Rattle.std.specs.Prelude.{slice_get, slice_set, reverse, nat_eq, nat_le, if◌then◌else◌}
+use Rattle.anf_convert.specs.AnfForm.{fields}
 use Rattle.wasm_core.specs.declared.types.ValType.TheVariants as type
 use Rattle.wasm_core.specs.declared.types.ConstValue.{ConstValue}
 use Rattle.wasm_core.specs.declared.types.ConstValue.TheVariants.{I32}
@@ -19,7 +20,7 @@ use Rattle.wasm_core.specs.MachineStep.{Frame, State}
 use Rattle.wasm_core.proofs.Rules.{Around}
 use Rattle.wasm_core.proofs.Rules as rule
 use Rattle.anf_convert.specs.declared.program.Atom.{Atom}
-use Rattle.closure_lift.specs.Lifted.{Op, OConst, OApp, OCon, OClos, OCase, Block, RetAtom, LetAtom, Ret, Let, BranchBlocks, Program, Fn, Val, VBox, VCon, VClos, Vals, VNil, VCons, size, ◌+v◌, many, BranchAt}
+use Rattle.closure_lift.specs.Lifted.{Op, ConstOp, AppOp, ConOp, ClosOp, CaseOp, Block, TailAtom, BindAtom, Tail, Bind, BranchBlocks, Program, Fn, Val, VBox, VCon, VClos, Vals, VNil, VCons, size, ◌+v◌, branch_count, BranchAt}
 use Rattle.wasm_emit.specs.CallDepth.{with_call}
 use Rattle.wasm_emit.specs.EmitLaws.{Spent}
 use Rattle.wasm_emit.specs.EmittedCode.{constant_index}
@@ -37,7 +38,7 @@ use Rattle.known_calls.specs.KnownModule.{params, captured_words, module_with, s
 use Rattle.known_calls.specs.KnownCalls.{applied}
 use Rattle.known_calls.proofs.KnownHolds.{in_local, in_field, Words, words_length, Env, env_nil, env_at, env_known, env_on, Unread, OpUnread, Stood, stood_inside, stood_in_tail, stood_up, loop_of, stood_final}
 use Rattle.known_calls.proofs.Unreading.{neither, unmade_some, not_read, unread_known, unread_at, unread_moved, unread_let_atom, unread_op, unread_branch}
-use Rattle.known_calls.proofs.Finding.{There, there, there_unknown, same_some}
+use Rattle.known_calls.proofs.Finding.{There, there, there_unknown}
 use Rattle.known_calls.proofs.Knowing.{known_is, calls, same_function, same_captured, no_box}
 use Rattle.known_calls.proofs.KnownMaking.{WordsStand, stand_more, words, stand_size, put_atom, pushed, made, new_made}
 use Rattle.known_calls.proofs.KnownCases.{Yields, Out, Go, fewer_kept, ordered_all, all_sizes, branch_is, among_all, more_steps, bare_found, fielded_found}
@@ -78,7 +79,7 @@ module _ (P : Program) (main : Body) (gs : List GlobalDef) (es : List Export) (p
     pub sim : (at : Position) (m : Mem) (p h : ℕ) (ls : List ConstValue) (d : ℕ) (ps : List Place) (n : ℕ) → cost c b ≤ n + 20 → Room M cap m p h → word m 0 ≡ 0 → Env m h ls d ps e → OpUnread ps x → top_op d x ≤ length ls → h + 4 * s ≤ cap.bytes →
         Yields P M cap Q at m p h ls d v tail D k s n (op P ps d at x)
 
-  sim_con : {D : ℕ} {tail : Bool} {e : Vals} {c : ℕ} {as' : List Atom} {vs : Vals} → c < 65536 → 0 < length as' → length as' < 2049 → length as' < W → AllAre e as' vs → SimOp tail D e (OCon c as') (VCon c vs) 0 0 1 (suc (length as'))
+  sim_con : {D : ℕ} {tail : Bool} {e : Vals} {c : ℕ} {as' : List Atom} {vs : Vals} → c < 65536 → 0 < length as' → length as' < fields → length as' < W → AllAre e as' vs → SimOp tail D e (ConOp c as') (VCon c vs) 0 0 1 (suc (length as'))
   sim_con {c = c} {as' = as'} lt pos few narrow all = record {
     sim = λ at m p h ls d ps n is room nil env un has needed. record {
       run = λ f vals rest l u bound stood deep fits go out.
@@ -88,7 +89,7 @@ module _ (P : Program) (main : Body) (gs : List GlobalDef) (es : List Export) (p
     };
   }
 
-  sim_clos : {D : ℕ} {tail : Bool} {e : Vals} {g : ℕ} {as' : List Atom} {vs : Vals} → g < 32768 → length as' < 2049 → length as' < W → AllAre e as' vs → SimOp tail D e (OClos g as') (VClos g vs) 0 0 1 (suc (length as'))
+  sim_clos : {D : ℕ} {tail : Bool} {e : Vals} {g : ℕ} {as' : List Atom} {vs : Vals} → g < 32768 → length as' < fields → length as' < W → AllAre e as' vs → SimOp tail D e (ClosOp g as') (VClos g vs) 0 0 1 (suc (length as'))
   sim_clos {as' = as'} lt few narrow all = record {
     sim = λ at m p h ls d ps n is room nil env un has needed. record {
       run = λ f vals rest l u bound stood deep fits go out.
@@ -98,7 +99,7 @@ module _ (P : Program) (main : Body) (gs : List GlobalDef) (es : List Export) (p
     };
   }
 
-  sim_const : {tail : Bool} {D : ℕ} {x : ℕ} {t : Block} {e : Vals} {v : Val} {c k b s : ℕ} → slice_get P.constants x ≡ Some t → SimCode true D VNil t v c k b s → SimOp tail (with_call tail D) e (OConst x) v (suc c) k b s
+  sim_const : {tail : Bool} {D : ℕ} {x : ℕ} {t : Block} {e : Vals} {v : Val} {c k b s : ℕ} → slice_get P.constants x ≡ Some t → SimCode true D VNil t v c k b s → SimOp tail (with_call tail D) e (ConstOp x) v (suc c) k b s
   sim_const {D = D} {x = x} {t = t} {v = v} {c = c} {b = b} {s = s} is_at body = record {
     sim = λ at m p h ls d ps n is room nil env un has needed. record {
       run = λ f vals rest l u bound stood deep fits go out.
@@ -143,7 +144,7 @@ module _ (P : Program) (main : Body) (gs : List GlobalDef) (es : List Export) (p
         Stood P (InTail g depth) tail d (length ls) F.keeps F.labels → d ≤ length ls → (tail ≡ true → Out P M cap Q m h r s F l u) → Within M cap Q (k + l) (cost c b + 14 + u) (here cap F m p h ls (words (w0 ∷ ws) ++ vals) (into_params fn.captured (Br depth ∷ rest)))
     jump_follows {w0} {ws} {F} {ls} vals rest {l} {u} {depth} {d} few all deep stood has out =
         let i = in_loop P g depth stood in
-        let same_fn : i.fn ≡ fn = same_some (sym i.at ∙ is_at) in
+        let same_fn : i.fn ≡ fn = same_Some _ _ (sym i.at ∙ is_at) in
         let G : Around = record { keeps = true; labels = i.inner ++ loop_of P g fn ∷ []; callers = F.callers } in
         let around : F ≡ G = same_around F true (i.inner ++ loop_of P g fn ∷ []) i.keep (i.is ∙ ap (λ (x : Fn). i.inner ++ loop_of P g x ∷ []) same_fn) in
         let locals : top (suc fn.captured) fn.body ≤ length ls = subst (λ (x : Fn). top (suc x.captured) x.body ≤ length ls) same_fn i.enough in
@@ -223,14 +224,14 @@ module _ (P : Program) (main : Body) (gs : List GlobalDef) (es : List Export) (p
         turned (InTail h0 depth) stood' wa ws all many = either (jumps g h0 depth) h0 depth refl stood' wa ws all many
 
   sim_app : {tail : Bool} {D : ℕ} {e e' : Vals} {f a : Atom} {g : ℕ} {fn : Fn} {v r : Val} {c k b s : ℕ} → Is e f (VClos g e') → Is e a v → slice_get P.functions g ≡ Some fn → size e' ≡ fn.captured → SimCode true D (VCons v e') fn.body r c k b s →
-      SimOp tail (with_call tail D) e (OApp f a) r (suc c) k b s
+      SimOp tail (with_call tail D) e (AppOp f a) r (suc c) k b s
   sim_app {tail} {D} {e} {e'} {f} {a} {g} {fn} {v} {r} {c} {k} {b} {s} isf isa is_at sz body = record {
     sim = λ at m p h ls d ps n is room nil env un has needed. record {
       run = λ F vals rest l u bound stood deep fits go out. looser M cap Q (by_kind at m p h ls d ps room nil env un has needed F vals rest l u stood deep go out (known_function ps f) refl) (omega arith) (omega arith);
     };
   }
     where
-      by_kind : (at : Position) (m : Mem) (p h : ℕ) (ls : List ConstValue) (d : ℕ) (ps : List Place) → Room M cap m p h → word m 0 ≡ 0 → Env m h ls d ps e → OpUnread ps (OApp f a) → d ≤ length ls → h + 4 * s ≤ cap.bytes → (F : Around) (vals : List ConstValue) (rest : List Instr) (l u : ℕ) →
+      by_kind : (at : Position) (m : Mem) (p h : ℕ) (ls : List ConstValue) (d : ℕ) (ps : List Place) → Room M cap m p h → word m 0 ≡ 0 → Env m h ls d ps e → OpUnread ps (AppOp f a) → d ≤ length ls → h + 4 * s ≤ cap.bytes → (F : Around) (vals : List ConstValue) (rest : List Instr) (l u : ℕ) →
           Stood P at tail d (length ls) F.keeps F.labels → length F.callers + with_call tail D + 1 ≤ cap.frames → Go P M cap Q m h ls d r s F vals rest l u → (tail ≡ true → Out P M cap Q m h r s F l u) → (o : Option (ℕ × List Word)) → known_function ps f ≡ o →
           Within M cap Q (k + l) (cost c b + 30 + u) (here cap F m p h ls vals (application P ps at f a o rest))
       by_kind at m p h ls d ps room nil env un has needed F vals rest l u stood deep go out None none =
@@ -250,14 +251,14 @@ module _ (P : Program) (main : Body) (gs : List GlobalDef) (es : List Export) (p
           let at' : slice_get P.functions j.0 ≡ Some fn = ap (slice_get P.functions) (sym function) ∙ is_at in
           (known_follows j.0 at' sz body room nil needed at ps a j.1 few held (there m h ls d env isa un) deep stood has go out)
 
-  sim_box_app : {tail : Bool} {D : ℕ} {e : Vals} {f a : Atom} {v : Val} → Is e f VBox → Is e a v → SimOp tail D e (OApp f a) VBox 1 0 0 0
+  sim_box_app : {tail : Bool} {D : ℕ} {e : Vals} {f a : Atom} {v : Val} → Is e f VBox → Is e a v → SimOp tail D e (AppOp f a) VBox 1 0 0 0
   sim_box_app {tail} {D} {e} {f} {a} isf isa = record {
     sim = λ at m p h ls d ps n is room nil env un has needed. record {
       run = λ F vals rest l u bound stood deep fits go out. looser M cap Q (by_kind at m p h ls d ps room nil env un F vals rest l u stood (omega arith) go out (known_function ps f) refl) (omega arith) (omega arith);
     };
   }
     where
-      by_kind : (at : Position) (m : Mem) (p h : ℕ) (ls : List ConstValue) (d : ℕ) (ps : List Place) → Room M cap m p h → word m 0 ≡ 0 → Env m h ls d ps e → OpUnread ps (OApp f a) → (F : Around) (vals : List ConstValue) (rest : List Instr) (l u : ℕ) → Stood P at tail d (length ls) F.keeps F.labels →
+      by_kind : (at : Position) (m : Mem) (p h : ℕ) (ls : List ConstValue) (d : ℕ) (ps : List Place) → Room M cap m p h → word m 0 ≡ 0 → Env m h ls d ps e → OpUnread ps (AppOp f a) → (F : Around) (vals : List ConstValue) (rest : List Instr) (l u : ℕ) → Stood P at tail d (length ls) F.keeps F.labels →
           length F.callers + 1 ≤ cap.frames → Go P M cap Q m h ls d VBox 0 F vals rest l u → (tail ≡ true → Out P M cap Q m h VBox 0 F l u) → (o : Option (ℕ × List Word)) → known_function ps f ≡ o → Within M cap Q l (10 + u) (here cap F m p h ls vals (application P ps at f a o rest))
       by_kind at m p h ls d ps room nil env un F vals rest l u stood deep go out None none =
           let back : Out P M cap Q m h VBox 0 (entering (waiting at F ls vals rest)) l u = goes_back P M cap Q m 0 F stood go out in
@@ -294,7 +295,7 @@ module _ (P : Program) (main : Body) (gs : List GlobalDef) (es : List Export) (p
       }
 
   -- a value is matched
-  chosen : {D : ℕ} {tail : Bool} {e : Vals} {bs : BranchBlocks} {i : ℕ} {vs : Vals} {t : Block} {r : Val} {c k b s : ℕ} → many bs ≤ N → BranchAt bs i (size vs) t → SimCode tail D (vs +v e) t r c k b s →
+  chosen : {D : ℕ} {tail : Bool} {e : Vals} {bs : BranchBlocks} {i : ℕ} {vs : Vals} {t : Block} {r : Val} {c k b s : ℕ} → branch_count bs ≤ N → BranchAt bs i (size vs) t → SimCode tail D (vs +v e) t r c k b s →
       (at : Position) (m : Mem) (p h : ℕ) (ls : List ConstValue) (d w : ℕ) (ps : List Place) → Room M cap m p h → word m 0 ≡ 0 → Env m h ls d ps e → Unread (fields_of d (size vs) ps) t → top (suc d) t ≤ length ls → d < length ls → h + 4 * s ≤ cap.bytes → slice_get ls d ≡ Some (I32 w) → Stands m h w (VCon i vs) →
       Yields P M cap Q at m p h ls d r tail D k s (11 * N + (cost c b + 5)) (tests d (alternatives P ps d 0 bs) at)
   chosen {bs = bs} {i = i} {t = t} few branch_at body at m p h ls d w ps room nil env un has lt needed is (s_empty small e) =
@@ -307,7 +308,7 @@ module _ (P : Program) (main : Body) (gs : List GlobalDef) (es : List Export) (p
       more_steps P M cap Q m p h ls d _ _ _ _ _ _ (omega (arith, some, few, all_sizes P ps d 0 bs))
       (fielded_found P M cap Q m p h ls d _ _ _ _ _ _ w a is (alternatives P ps d 0 bs) (ordered_all P ps d 0 bs) (shaped_alternatives P ps d 0 bs) (among_all P ps d 0 i (omega arith) branch_at) y (2 * q) (omega (arith, e)) some' (omega (arith, room.inside)) (omega (arith, head)) (omega (arith, small)) at)
 
-  sim_case : {D : ℕ} {tail : Bool} {e : Vals} {a : Atom} {bs : BranchBlocks} {i : ℕ} {vs : Vals} {t : Block} {r : Val} {c k b s : ℕ} → Is e a (VCon i vs) → many bs ≤ N → BranchAt bs i (size vs) t → SimCode tail D (vs +v e) t r c k b s → SimOp tail D e (OCase a bs) r (suc c) (suc k) b s
+  sim_case : {D : ℕ} {tail : Bool} {e : Vals} {a : Atom} {bs : BranchBlocks} {i : ℕ} {vs : Vals} {t : Block} {r : Val} {c k b s : ℕ} → Is e a (VCon i vs) → branch_count bs ≤ N → BranchAt bs i (size vs) t → SimCode tail D (vs +v e) t r c k b s → SimOp tail D e (CaseOp a bs) r (suc c) (suc k) b s
   sim_case {a = a} {bs = bs} {c = c} {k} {b} isa few branch_at body = record {
     sim = λ at m p h ls d ps n is room nil env un has needed. record {
       run = λ f vals rest l u bound stood deep fits go out.
@@ -323,7 +324,7 @@ module _ (P : Program) (main : Body) (gs : List GlobalDef) (es : List Export) (p
     };
   }
 
-  sim_ret_atom : {D : ℕ} {tail : Bool} {e : Vals} {a : Atom} {v : Val} → Is e a v → SimCode tail D e (RetAtom a) v 0 0 0 0
+  sim_ret_atom : {D : ℕ} {tail : Bool} {e : Vals} {a : Atom} {v : Val} → Is e a v → SimCode tail D e (TailAtom a) v 0 0 0 0
   sim_ret_atom isa = record {
     sim = λ at m p h ls d ps room nil env un has needed. record {
       run = λ f vals rest l u bound stood deep fits go out.
@@ -331,7 +332,7 @@ module _ (P : Program) (main : Body) (gs : List GlobalDef) (es : List Export) (p
     };
   }
 
-  sim_let_atom : {D : ℕ} {tail : Bool} {e : Vals} {a : Atom} {t : Block} {v r : Val} {c k b s : ℕ} → Is e a v → SimCode tail D (VCons v e) t r c k b s → SimCode tail D e (LetAtom a t) r (suc c) k b s
+  sim_let_atom : {D : ℕ} {tail : Bool} {e : Vals} {a : Atom} {t : Block} {v r : Val} {c k b s : ℕ} → Is e a v → SimCode tail D (VCons v e) t r c k b s → SimCode tail D e (BindAtom a t) r (suc c) k b s
   sim_let_atom {a = a} {t = t} {c = c} {b = b} isa body = record {
     sim = λ at m p h ls d ps room nil env un has needed. record {
       run = λ f vals rest l u bound stood deep fits go out.
@@ -346,7 +347,7 @@ module _ (P : Program) (main : Body) (gs : List GlobalDef) (es : List Export) (p
     };
   }
 
-  sim_ret : {D : ℕ} {tail : Bool} {e : Vals} {x : Op} {v : Val} {c k b s : ℕ} → SimOp tail D e x v c k b s → SimCode tail D e (Ret x) v c k b s
+  sim_ret : {D : ℕ} {tail : Bool} {e : Vals} {x : Op} {v : Val} {c k b s : ℕ} → SimOp tail D e x v c k b s → SimCode tail D e (Tail x) v c k b s
   sim_ret {c = c} {b = b} y = record { sim = λ at m p h ls d ps room nil env un has needed. y.sim at m p h ls d ps (cost c b + 2) (omega arith) room nil env un has needed }
 
   -- an operation costs something
@@ -399,7 +400,7 @@ module _ (P : Program) (main : Body) (gs : List GlobalDef) (es : List Export) (p
 
   module _ {tail : Bool} {D : ℕ} {e : Vals} {x : Op} {t : Block} {v r : Val} {c c' k k' b b' s s' : ℕ} (does : Does P W N false D e x v c k b s) (first : SimOp false D e x v c k b s) (body : SimCode tail D (VCons v e) t r c' k' b' s') where
     -- a binding that has code
-    let_made : (at : Position) (m : Mem) (p h : ℕ) (ls : List ConstValue) (d : ℕ) (ps : List Place) → Room M cap m p h → word m 0 ≡ 0 → Env m h ls d ps e → Unread ps (Let x t) → top d (Let x t) ≤ length ls → h + 4 * (s + s') ≤ cap.bytes →
+    let_made : (at : Position) (m : Mem) (p h : ℕ) (ls : List ConstValue) (d : ℕ) (ps : List Place) → Room M cap m p h → word m 0 ≡ 0 → Env m h ls d ps e → Unread ps (Bind x t) → top d (Bind x t) ≤ length ls → h + 4 * (s + s') ≤ cap.bytes →
         Yields P M cap Q at m p h ls d r tail D (k + k') (s + s') (cost (c + c') (b + b') + 2) (λ rest. into_local ps d x (op P ps d Inside x) (code P (At (InLocal d) ∷ ps) (suc d) at t rest))
     let_made at m p h ls d ps room nil env un has needed = record {
       run = λ f vals rest l u bound stood deep fits go out.
@@ -414,7 +415,7 @@ module _ (P : Program) (main : Body) (gs : List GlobalDef) (es : List Export) (p
     }
 
     -- one that is known, and needs none: no step, no block and no match
-    let_known : (at : Position) (m : Mem) (p h : ℕ) (ls : List ConstValue) (d : ℕ) (ps : List Place) (q : Place) → block_reads 0 t ≡ Never → known P ps x ≡ Some q → Room M cap m p h → word m 0 ≡ 0 → Env m h ls d ps e → Unread ps (Let x t) → top d (Let x t) ≤ length ls → h + 4 * (s + s') ≤ cap.bytes →
+    let_known : (at : Position) (m : Mem) (p h : ℕ) (ls : List ConstValue) (d : ℕ) (ps : List Place) (q : Place) → block_reads 0 t ≡ Never → known P ps x ≡ Some q → Room M cap m p h → word m 0 ≡ 0 → Env m h ls d ps e → Unread ps (Bind x t) → top d (Bind x t) ≤ length ls → h + 4 * (s + s') ≤ cap.bytes →
         Yields P M cap Q at m p h ls d r tail D (k + k') (s + s') (cost (c + c') (b + b') + 2) (λ rest. code P (q ∷ ps) d at t rest)
     let_known at m p h ls d ps q unread is room nil env un has needed =
         let x' = known_is P m h ls d env does is in
@@ -429,12 +430,12 @@ module _ (P : Program) (main : Body) (gs : List GlobalDef) (es : List Export) (p
               (omega (arith, x'.no_match)) (omega arith);
         }
 
-    let_either : (at : Position) (m : Mem) (p h : ℕ) (ls : List ConstValue) (d : ℕ) (ps : List Place) → Room M cap m p h → word m 0 ≡ 0 → Env m h ls d ps e → Unread ps (Let x t) → top d (Let x t) ≤ length ls → h + 4 * (s + s') ≤ cap.bytes → (o : Option Place) → unmade P ps x t ≡ o →
+    let_either : (at : Position) (m : Mem) (p h : ℕ) (ls : List ConstValue) (d : ℕ) (ps : List Place) → Room M cap m p h → word m 0 ≡ 0 → Env m h ls d ps e → Unread ps (Bind x t) → top d (Bind x t) ≤ length ls → h + 4 * (s + s') ≤ cap.bytes → (o : Option Place) → unmade P ps x t ≡ o →
         Yields P M cap Q at m p h ls d r tail D (k + k') (s + s') (cost (c + c') (b + b') + 2) (λ rest. choose o (λ q. code P (q ∷ ps) d at t rest) (into_local ps d x (op P ps d Inside x) (code P (At (InLocal d) ∷ ps) (suc d) at t rest)))
     let_either at m p h ls d ps room nil env un has needed None e = let_made at m p h ls d ps room nil env un has needed
     let_either at m p h ls d ps room nil env un has needed (Some q) e = let z = unmade_some (is_read (block_reads 0 t)) (known P ps x) e in let_known at m p h ls d ps q (not_read (block_reads 0 t) z.0) z.1 room nil env un has needed
 
-    sim_let : SimCode tail D e (Let x t) r (c + c') (k + k') (b + b') (s + s')
+    sim_let : SimCode tail D e (Bind x t) r (c + c') (k + k') (b + b') (s + s')
     sim_let = record { sim = λ at m p h ls d ps room nil env un has needed. let_either at m p h ls d ps room nil env un has needed (unmade P ps x t) refl }
 
   mutual

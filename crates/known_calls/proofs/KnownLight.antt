@@ -6,7 +6,8 @@ use Rattle.anf_convert.specs.declared.program.Atom.{Atom}
 use Rattle.anf_convert.specs.declared.program.Atom.TheVariants.{Var as AVar, Box as ABox, Empty as AEmpty}
 use Rattle.anf_convert.specs.Anf.{AnfOp, ConstOp, AppOp, ConOp, LamOp, FixOp, CaseOp, AnfBlock, TailAtom, Tail, BindAtom, Bind, AnfBranches, NoBranch, Branch, AnfDefs, NoDef, LamDef, BoxDef, def_count}
 use Rattle.anf_convert.specs.Captured.{Scope, Outside, Plain, Shared, depth, Entry, Unbound, Word, Words, entry, plains, shares, lam_captured, fix_captured}
-use Rattle.closure_lift.specs.Lifted.{Block, Let, Ret, LetAtom, RetAtom, Fn}
+use Rattle.closure_lift.specs.Lifted.{Block, Fn}
+use Rattle.closure_lift.specs.Lifted as lifted
 use Rattle.closure_lift.specs.Lift.{LiftSlot, Holds, Made, held, atom, closure_for, closure, closures, atoms_of, block_functions, op_functions, numbered, unnumbered, holding, lift_op, lift_block, lift_branches, def_functions, functions_op, functions_block, functions_branches, functions_defs, lift_constants, functions_constants, constants_functions}
 use Rattle.closure_lift.specs.CapturedLimit.{OpCaptures, BlockCaptures, BranchesCapture, DefsCapture, BlocksCapture}
 use Rattle.known_calls.specs.KnownWeight.{atom_weight, atoms_weight, op_weight, weight, branches_weight, functions_weight, constants_weight, normal_op_weight, normal_weight, normal_branches_weight, normal_defs_weight, normal_constants_weight, LiftedIsLight}
@@ -81,16 +82,16 @@ module _ (c : ℕ) where
 
     block_light : (s : Scope) (gs : List ℕ) (fr : List LiftSlot) (g : ℕ) (t : AnfBlock) → ScopeFew s → BlockCaptures (suc c) s t →
         weight (lift_block s gs fr g t) + functions_weight (functions_block s gs g t) ≤ normal_weight c t
-    block_light s gs fr g (TailAtom a) few ok = omega (arith, closures_light s gs fr 8 (a ∷ []) (λ fr'. RetAtom (atom s fr' a)) few (λ fr'. omega arith))
+    block_light s gs fr g (TailAtom a) few ok = omega (arith, closures_light s gs fr 8 (a ∷ []) (λ fr'. lifted.TailAtom (atom s fr' a)) few (λ fr'. omega arith))
     block_light s gs fr g (Tail op) few ok =
         let inner = functions_weight (functions_op s gs g op) in
         let n = normal_op_weight c op - inner - atoms_weight c (atoms_of op) in
-        let r = closures_light s gs fr n (atoms_of op) (λ fr'. Ret (lift_op s gs fr' g op)) few (λ fr'. omega (arith, op_light s gs fr' g op few ok)) in
+        let r = closures_light s gs fr n (atoms_of op) (λ fr'. lifted.Tail (lift_op s gs fr' g op)) few (λ fr'. omega (arith, op_light s gs fr' g op few ok)) in
         omega (arith, r, op_light s gs fr g op few ok)
     block_light s gs fr g (BindAtom a t) few ok =
         let next = λ (fr' : List LiftSlot). lift_block (Plain s) (0 ∷ gs) (Holds (depth s) ∷ fr') g t in
         let n = 12 + normal_weight c t - functions_weight (functions_block (Plain s) (0 ∷ gs) g t) in
-        let r = closures_light s gs fr n (a ∷ []) (λ fr'. LetAtom (atom s fr' a) (next fr')) few (λ fr'. omega (arith, block_light (Plain s) (0 ∷ gs) (Holds (depth s) ∷ fr') g t few ok)) in
+        let r = closures_light s gs fr n (a ∷ []) (λ fr'. lifted.BindAtom (atom s fr' a) (next fr')) few (λ fr'. omega (arith, block_light (Plain s) (0 ∷ gs) (Holds (depth s) ∷ fr') g t few ok)) in
         omega (arith, r, block_light (Plain s) (0 ∷ gs) (Holds (depth s) ∷ fr) g t few ok)
     block_light s gs fr g (Bind op t) few ok =
         let g' = g + op_functions op in
@@ -98,7 +99,7 @@ module _ (c : ℕ) where
         let first = functions_weight (functions_op s gs g op) in
         let second = functions_weight (functions_block (Plain s) (0 ∷ gs) g' t) in
         let n = 4 + normal_op_weight c op + normal_weight c t - first - second - atoms_weight c (atoms_of op) in
-        let r = closures_light s gs fr n (atoms_of op) (λ fr'. Let (lift_op s gs fr' g op) (next fr')) few
+        let r = closures_light s gs fr n (atoms_of op) (λ fr'. lifted.Bind (lift_op s gs fr' g op) (next fr')) few
         (λ fr'. omega (arith, op_light s gs fr' g op few ok.0, block_light (Plain s) (0 ∷ gs) (Holds (depth s) ∷ fr') g' t few ok.1)) in
         omega (arith, r, op_light s gs fr g op few ok.0, block_light (Plain s) (0 ∷ gs) (Holds (depth s) ∷ fr) g' t few ok.1, functions_join (functions_op s gs g op) (functions_block (Plain s) (0 ∷ gs) g' t))
 

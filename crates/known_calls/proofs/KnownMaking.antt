@@ -2,6 +2,7 @@
 use Rattle.std.proofs.Common.{◌≡◌, ℕ, suc, ◌+◌, ◌*◌, ◌<◌, ◌≤◌, List, [], ◌∷◌, ◌++◌, length, Option, Some, refl, ap, sym, ◌∙◌, subst, inl, inr, arith}
 use Rattle.std.proofs.lemmas.Option.{slice_get-get_or}
 use Rattle.std.specs.Prelude.{slice_get, slice_set}
+use Rattle.anf_convert.specs.AnfForm.{fields}
 use Rattle.wasm_core.specs.Memory.{byte, word, put_word}
 use Rattle.wasm_core.specs.WordData.{IsBelow}
 use Rattle.wasm_core.specs.declared.types.ConstValue.{ConstValue}
@@ -78,7 +79,7 @@ module _ (M : Parts) (fixed : HasRunTime M) (cap : Limits) (Q : State → Type 0
 
   -- a block is made at the end of the heap, and its address comes into local d
   pub new_made : {f : Around} {m : Mem} {p h : ℕ} {ls vals : List ConstValue} {rest : List Instr} {l u : ℕ} {d header : ℕ} {ps : List Place} {e : Vals} {as' : List Atom} {vs : Vals} →
-      suc (length f.callers) ≤ cap.frames → h + 4 * suc (length as') ≤ cap.bytes → AllAre e as' vs → NoneNamed ps as' → length as' < 2049 → header < 4294967296 → d < length ls → Room M cap m p h → Env m h ls d ps e →
+      suc (length f.callers) ≤ cap.frames → h + 4 * suc (length as') ≤ cap.bytes → AllAre e as' vs → NoneNamed ps as' → length as' < fields → header < 4294967296 → d < length ls → Room M cap m p h → Env m h ls d ps e →
       ((m' : Mem) (p' : ℕ) (ls' : List ConstValue) → Room M cap m' p' (h + 4 * suc (length as')) → Same h m m' → Keeps d ls ls' → slice_get ls' d ≡ Some (I32 h) →
       word m' h ≡ header → Fields m' (h + 4 * suc (length as')) h vs → Within M cap Q l u (here cap f m' p' (h + 4 * suc (length as')) ls' vals rest)) →
       Within M cap Q l (39 + 4 * length as' + u) (here cap f m p h ls vals (new_block ps d header as' rest))
@@ -96,7 +97,7 @@ module _ (M : Parts) (fixed : HasRunTime M) (cap : Limits) (Q : State → Type 0
 
   -- and onto the operands
   pub made : {f : Around} {m : Mem} {p h : ℕ} {ls vals : List ConstValue} {rest : List Instr} {l u : ℕ} {d header : ℕ} {ps : List Place} {e : Vals} {as' : List Atom} {vs : Vals} →
-      suc (length f.callers) ≤ cap.frames → h + 4 * suc (length as') ≤ cap.bytes → AllAre e as' vs → NoneNamed ps as' → length as' < 2049 → header < 4294967296 → d < length ls → Room M cap m p h → Env m h ls d ps e →
+      suc (length f.callers) ≤ cap.frames → h + 4 * suc (length as') ≤ cap.bytes → AllAre e as' vs → NoneNamed ps as' → length as' < fields → header < 4294967296 → d < length ls → Room M cap m p h → Env m h ls d ps e →
       ((m' : Mem) (p' : ℕ) (ls' : List ConstValue) → Room M cap m' p' (h + 4 * suc (length as')) → Same h m m' → Keeps d ls ls' → word m' h ≡ header → Fields m' (h + 4 * suc (length as')) h vs → Within M cap Q l u (here cap f m' p' (h + 4 * suc (length as')) ls' (I32 h ∷ vals) rest)) →
       Within M cap Q l (40 + 4 * length as' + u) (here cap f m p h ls vals (block ps d header as' rest))
   made deep needed all un few fits_word has room env k =

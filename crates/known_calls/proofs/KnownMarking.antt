@@ -4,9 +4,10 @@ use Rattle.std.proofs.Math.Seq.{drop-append_seam}
 use Rattle.std.proofs.lemmas.List.{reverse-append, get_or-reverse, length-reverse, length-drop, length-replicate, set-append_left, set-append_right, drop_all, take_more, take-append-drop}
 use Rattle.std.proofs.lemmas.Bool.Decides.{nat_tests}
 use Rattle.std.specs.Prelude.{if◌then◌else◌, nat_eq}
+use Rattle.std.proofs.Math.Dec.{eqb-suc-suc}
 use Rattle.anf_convert.specs.declared.program.Atom.{Atom}
 use Rattle.anf_convert.specs.declared.program.Atom.TheVariants.{Var as AVar, Box as ABox, Empty as AEmpty}
-use Rattle.closure_lift.specs.Lifted.{Op, OConst, OApp, OCon, OClos, OCase, Block, RetAtom, LetAtom, Ret, Let, BranchBlocks, BNil, BCons, Bound, AtomBound, OpBound, ret_of, lets_of}
+use Rattle.closure_lift.specs.Lifted.{Op, ConstOp, AppOp, ConOp, ClosOp, CaseOp, Block, TailAtom, BindAtom, Tail, Bind, BranchBlocks, NoBranch, Branch, Bound, AtomIs, OpIs, tail_of, block_of}
 use Rattle.closure_lift.specs.LiftedProgram.{renumber_op, renumber, renumber_branches}
 use Rattle.closure_lift.specs.LiftedView.{seen, bounds_of, branches_of}
 use Rattle.closure_lift.specs.declared.program.LiftedBranch.{LiftedBranch}
@@ -70,9 +71,6 @@ pub also_length : (f : ℕ → Times) (rs : List Times) → length (also f rs) �
 also_length f [] = refl
 also_length f (r ∷ rs) = ap suc (also_length (λ i. f (suc i)) rs)
 
-same_next : (i j : ℕ) → nat_eq (suc i) (suc j) ≡ nat_eq i j
-same_next i j = grind (arith, nat_tests)
-
 not_first : (i : ℕ) → nat_eq (suc i) zero ≡ false
 not_first i = grind (arith, nat_tests)
 
@@ -90,7 +88,7 @@ later_never : (j : ℕ) → one (suc j) zero ≡ Never
 later_never j = ap (λ (b : Bool). if b then Once else Never) (not_later j)
 
 later_once : (i j : ℕ) → one (suc j) (suc i) ≡ one j i
-later_once i j = ap (λ (b : Bool). if b then Once else Never) (same_next i j)
+later_once i j = ap (λ (b : Bool). if b then Once else Never) (eqb-suc-suc i j)
 
 one_further : (r : Times) (rs : List Times) (j : ℕ) → also (one (suc j)) (r ∷ rs) ≡ r ∷ also (one j) rs
 one_further r rs j = ap (λ (z : Times). (z plus r) ∷ also (λ i. one (suc j) (suc i)) rs) (later_never j) ∙ ap (λ (zs : List Times). r ∷ zs) (also_same (λ i. one (suc j) (suc i)) (one j) rs (λ i. later_once i j))
@@ -131,66 +129,66 @@ noted_at xs i r lt is = reverse_set xs i (Once plus r) lt ∙ set_noted (reverse
 
 -- What the parts of a block read.
 
-pub block_reads_step : (i : ℕ) (x : Bound) (xs : List Bound) (t : Block) → block_reads i (lets_of (x ∷ xs) t) ≡ bound_reads i x plus block_reads (suc i) (lets_of xs t)
-block_reads_step i (AtomBound a) xs t = refl
-block_reads_step i (OpBound p) xs t = refl
+pub block_reads_step : (i : ℕ) (x : Bound) (xs : List Bound) (t : Block) → block_reads i (block_of (x ∷ xs) t) ≡ bound_reads i x plus block_reads (suc i) (block_of xs t)
+block_reads_step i (AtomIs a) xs t = refl
+block_reads_step i (OpIs p) xs t = refl
 
-pub block_reads_end : (i : ℕ) (x : Bound) → block_reads i (ret_of x) ≡ bound_reads i x
-block_reads_end i (AtomBound a) = refl
-block_reads_end i (OpBound p) = refl
+pub block_reads_end : (i : ℕ) (x : Bound) → block_reads i (tail_of x) ≡ bound_reads i x
+block_reads_end i (AtomIs a) = refl
+block_reads_end i (OpIs p) = refl
 
 -- a match's branches with binders, and those without
 pub branches_both : (i : ℕ) (bs : BranchBlocks) → empties_read i bs plus heads_read i bs ≡ branches_read i bs
-branches_both i BNil = refl
-branches_both i (BCons zero t bs) =
+branches_both i NoBranch = refl
+branches_both i (Branch zero t bs) =
     let e : i ≡ 0 + i = omega arith in
     sym (plus_assoc (block_reads i t) (empties_read i bs) (heads_read i bs)) ∙ ap (λ (z : Times). block_reads i t plus z) (branches_both i bs) ∙ ap (λ (k : ℕ). block_reads k t plus branches_read i bs) e
-branches_both i (BCons (suc n) t bs) = plus_swap (empties_read i bs) (block_reads (suc n + i) t) (heads_read i bs) ∙ ap (λ (z : Times). block_reads (suc n + i) t plus z) (branches_both i bs)
+branches_both i (Branch (suc n) t bs) = plus_swap (empties_read i bs) (block_reads (suc n + i) t) (heads_read i bs) ∙ ap (λ (z : Times). block_reads (suc n + i) t plus z) (branches_both i bs)
 
-pub heads_step : (i n : ℕ) (t : Block) (bs : BranchBlocks) → heads_read i (BCons n t BNil) plus heads_read i bs ≡ heads_read i (BCons n t bs)
+pub heads_step : (i n : ℕ) (t : Block) (bs : BranchBlocks) → heads_read i (Branch n t NoBranch) plus heads_read i bs ≡ heads_read i (Branch n t bs)
 heads_step i zero t bs = refl
 heads_step i (suc n) t bs = ap (λ (z : Times). z plus heads_read i bs) (plus_never (block_reads (suc n + i) t))
 
-pub empties_step : (i n : ℕ) (t : Block) (bs : BranchBlocks) → empties_read i (BCons n t BNil) plus empties_read i bs ≡ empties_read i (BCons n t bs)
+pub empties_step : (i n : ℕ) (t : Block) (bs : BranchBlocks) → empties_read i (Branch n t NoBranch) plus empties_read i bs ≡ empties_read i (Branch n t bs)
 empties_step i zero t bs = ap (λ (z : Times). z plus empties_read i bs) (plus_never (block_reads i t))
 empties_step i (suc n) t bs = refl
 
 -- Their marks.
 
-pub block_marks_step : (x : Bound) (xs : List Bound) (t : Block) → block_marks (lets_of (x ∷ xs) t) ≡ is_read (block_reads 0 (lets_of xs t)) ∷ (bound_marks x ++ block_marks (lets_of xs t))
-block_marks_step (AtomBound a) xs t = refl
-block_marks_step (OpBound p) xs t = refl
+pub block_marks_step : (x : Bound) (xs : List Bound) (t : Block) → block_marks (block_of (x ∷ xs) t) ≡ is_read (block_reads 0 (block_of xs t)) ∷ (bound_marks x ++ block_marks (block_of xs t))
+block_marks_step (AtomIs a) xs t = refl
+block_marks_step (OpIs p) xs t = refl
 
-pub block_marks_end : (x : Bound) → block_marks (ret_of x) ≡ bound_marks x
-block_marks_end (AtomBound a) = refl
-block_marks_end (OpBound p) = refl
+pub block_marks_end : (x : Bound) → block_marks (tail_of x) ≡ bound_marks x
+block_marks_end (AtomIs a) = refl
+block_marks_end (OpIs p) = refl
 
-pub head_marks_step : (n : ℕ) (t : Block) (bs : BranchBlocks) → head_marks (BCons n t bs) ≡ head_marks (BCons n t BNil) ++ head_marks bs
+pub head_marks_step : (n : ℕ) (t : Block) (bs : BranchBlocks) → head_marks (Branch n t bs) ≡ head_marks (Branch n t NoBranch) ++ head_marks bs
 head_marks_step zero t bs = refl
 head_marks_step (suc n) t bs = sym (append_assoc (branch_marks (suc n) t) [] (head_marks bs))
 
-pub empty_marks_step : (n : ℕ) (t : Block) (bs : BranchBlocks) → empty_marks (BCons n t bs) ≡ empty_marks (BCons n t BNil) ++ empty_marks bs
+pub empty_marks_step : (n : ℕ) (t : Block) (bs : BranchBlocks) → empty_marks (Branch n t bs) ≡ empty_marks (Branch n t NoBranch) ++ empty_marks bs
 empty_marks_step zero t bs = sym (append_assoc (block_marks t) [] (empty_marks bs))
 empty_marks_step (suc n) t bs = refl
 
-pub fielded_marks : (n : ℕ) (t : Block) → 0 < n → head_marks (BCons n t BNil) ≡ branch_marks n t
+pub fielded_marks : (n : ℕ) (t : Block) → 0 < n → head_marks (Branch n t NoBranch) ≡ branch_marks n t
 fielded_marks zero t e = absurd (omega arith)
 fielded_marks (suc n) t e = append-nil (branch_marks (suc n) t)
 
 -- The marks of the branches of a kind.
 
-pub kind_marks_step : (k : Kind) (n : ℕ) (t : Block) (bs : BranchBlocks) → kind_marks k (BCons n t bs) ≡ kind_marks k (BCons n t BNil) ++ kind_marks k bs
+pub kind_marks_step : (k : Kind) (n : ℕ) (t : Block) (bs : BranchBlocks) → kind_marks k (Branch n t bs) ≡ kind_marks k (Branch n t NoBranch) ++ kind_marks k bs
 kind_marks_step Bare n t bs = empty_marks_step n t bs
 kind_marks_step Fielded n t bs = head_marks_step n t bs
 
 -- one of the kind, and one of the other
-pub kind_branch_marks : (k : Kind) (n : ℕ) (t : Block) → is_of k n ≡ true → kind_marks k (BCons n t BNil) ≡ branch_marks n t
+pub kind_branch_marks : (k : Kind) (n : ℕ) (t : Block) → is_of k n ≡ true → kind_marks k (Branch n t NoBranch) ≡ branch_marks n t
 kind_branch_marks Bare zero t e = append-nil (block_marks t)
 kind_branch_marks Bare (suc n) t e = cc
 kind_branch_marks Fielded zero t e = cc
 kind_branch_marks Fielded (suc n) t e = append-nil (branch_marks (suc n) t)
 
-pub other_branch_marks : (k : Kind) (n : ℕ) (t : Block) → is_of k n ≡ false → kind_marks k (BCons n t BNil) ≡ []
+pub other_branch_marks : (k : Kind) (n : ℕ) (t : Block) → is_of k n ≡ false → kind_marks k (Branch n t NoBranch) ≡ []
 other_branch_marks Bare zero t e = cc
 other_branch_marks Bare (suc n) t e = refl
 other_branch_marks Fielded zero t e = refl
@@ -200,7 +198,7 @@ other_branch_marks Fielded (suc n) t e = cc
 pub kind_marks_halves : (k : Kind) (i : ℕ) (bs : List LiftedBranch) → kind_marks k (branches_of bs) ≡ kind_marks k (branches_of (take i bs)) ++ kind_marks k (branches_of (drop i bs))
 kind_marks_halves k zero bs = ap (λ (ms : List Bool). ms ++ kind_marks k (branches_of bs)) (sym (no_marks k))
   where
-    no_marks : (k : Kind) → kind_marks k BNil ≡ []
+    no_marks : (k : Kind) → kind_marks k NoBranch ≡ []
     no_marks Bare = refl
     no_marks Fielded = refl
 kind_marks_halves Bare (suc i) [] = refl
@@ -208,16 +206,16 @@ kind_marks_halves Fielded (suc i) [] = refl
 kind_marks_halves k (suc i) (b ∷ bs) =
     let front = branches_of (take i bs) in
     let back = branches_of (drop i bs) in
-    kind_marks_step k b.binders b.body (branches_of bs) ∙ ap (λ (ms : List Bool). kind_marks k (BCons b.binders b.body BNil) ++ ms) (kind_marks_halves k i bs)
-    ∙ sym (append_assoc (kind_marks k (BCons b.binders b.body BNil)) (kind_marks k front) (kind_marks k back)) ∙ ap (λ (ms : List Bool). ms ++ kind_marks k back) (sym (kind_marks_step k b.binders b.body front))
+    kind_marks_step k b.binders b.body (branches_of bs) ∙ ap (λ (ms : List Bool). kind_marks k (Branch b.binders b.body NoBranch) ++ ms) (kind_marks_halves k i bs)
+    ∙ sym (append_assoc (kind_marks k (Branch b.binders b.body NoBranch)) (kind_marks k front) (kind_marks k back)) ∙ ap (λ (ms : List Bool). ms ++ kind_marks k back) (sym (kind_marks_step k b.binders b.body front))
 
 -- there are none without such branches
 pub no_kind_marks : (k : Kind) (bs : BranchBlocks) → count_of k bs ≡ 0 → kind_marks k bs ≡ []
-no_kind_marks Bare BNil e = refl
-no_kind_marks Fielded BNil e = refl
-no_kind_marks k (BCons n t bs) e = kind_marks_step k n t bs ∙ one (is_of k n) refl e (no_kind_marks k bs)
+no_kind_marks Bare NoBranch e = refl
+no_kind_marks Fielded NoBranch e = refl
+no_kind_marks k (Branch n t bs) e = kind_marks_step k n t bs ∙ one (is_of k n) refl e (no_kind_marks k bs)
   where
-    one : (b : Bool) → is_of k n ≡ b → counted b (count_of k bs) ≡ 0 → (count_of k bs ≡ 0 → kind_marks k bs ≡ []) → kind_marks k (BCons n t BNil) ++ kind_marks k bs ≡ []
+    one : (b : Bool) → is_of k n ≡ b → counted b (count_of k bs) ≡ 0 → (count_of k bs ≡ 0 → kind_marks k bs ≡ []) → kind_marks k (Branch n t NoBranch) ++ kind_marks k bs ≡ []
     one true is z h = absurd (omega (arith, z))
     one false is z h = ap (λ (ms : List Bool). ms ++ kind_marks k bs) (other_branch_marks k n t is) ∙ h z
 
@@ -228,21 +226,21 @@ bare_left bs all new none e = e ∙ ap (λ (ms : List Bool). drop (length ms) al
 -- Numbers of constants play no part.
 mutual
   pub op_reads_renumbered : (f : ℕ → ℕ) (i : ℕ) (p : Op) → op_reads i (renumber_op f p) ≡ op_reads i p
-  op_reads_renumbered f i (OConst x) = refl
-  op_reads_renumbered f i (OApp g a) = refl
-  op_reads_renumbered f i (OCon c as') = refl
-  op_reads_renumbered f i (OClos g as') = refl
-  op_reads_renumbered f i (OCase a bs) = ap (λ (z : Times). names i a plus z) (branches_reads_renumbered f i bs)
+  op_reads_renumbered f i (ConstOp x) = refl
+  op_reads_renumbered f i (AppOp g a) = refl
+  op_reads_renumbered f i (ConOp c as') = refl
+  op_reads_renumbered f i (ClosOp g as') = refl
+  op_reads_renumbered f i (CaseOp a bs) = ap (λ (z : Times). names i a plus z) (branches_reads_renumbered f i bs)
 
   pub reads_renumbered : (f : ℕ → ℕ) (i : ℕ) (t : Block) → block_reads i (renumber f t) ≡ block_reads i t
-  reads_renumbered f i (RetAtom a) = refl
-  reads_renumbered f i (LetAtom a t) = ap (λ (z : Times). names i a plus z) (reads_renumbered f (suc i) t)
-  reads_renumbered f i (Ret p) = op_reads_renumbered f i p
-  reads_renumbered f i (Let p t) = ap (λ (z : Times). z plus block_reads (suc i) (renumber f t)) (op_reads_renumbered f i p) ∙ ap (λ (z : Times). op_reads i p plus z) (reads_renumbered f (suc i) t)
+  reads_renumbered f i (TailAtom a) = refl
+  reads_renumbered f i (BindAtom a t) = ap (λ (z : Times). names i a plus z) (reads_renumbered f (suc i) t)
+  reads_renumbered f i (Tail p) = op_reads_renumbered f i p
+  reads_renumbered f i (Bind p t) = ap (λ (z : Times). z plus block_reads (suc i) (renumber f t)) (op_reads_renumbered f i p) ∙ ap (λ (z : Times). op_reads i p plus z) (reads_renumbered f (suc i) t)
 
   branches_reads_renumbered : (f : ℕ → ℕ) (i : ℕ) (bs : BranchBlocks) → branches_read i (renumber_branches f bs) ≡ branches_read i bs
-  branches_reads_renumbered f i BNil = refl
-  branches_reads_renumbered f i (BCons n t bs) =
+  branches_reads_renumbered f i NoBranch = refl
+  branches_reads_renumbered f i (Branch n t bs) =
       ap (λ (z : Times). z plus branches_read i (renumber_branches f bs)) (reads_renumbered f (n + i) t) ∙ ap (λ (z : Times). block_reads (n + i) t plus z) (branches_reads_renumbered f i bs)
 
 -- The first marks of some.
@@ -307,29 +305,29 @@ atoms_more {a} slice k old notes new lt is inv e =
 -- a block without its first j bindings
 abbrev pub past : ℕ → Block → Block
 past zero t = t
-past (suc j) (RetAtom a) = RetAtom a
-past (suc j) (LetAtom a t) = past j t
-past (suc j) (Ret p) = Ret p
-past (suc j) (Let p t) = past j t
+past (suc j) (TailAtom a) = TailAtom a
+past (suc j) (BindAtom a t) = past j t
+past (suc j) (Tail p) = Tail p
+past (suc j) (Bind p t) = past j t
 
-past_end : (j : ℕ) (x : Bound) → past j (ret_of x) ≡ ret_of x
+past_end : (j : ℕ) (x : Bound) → past j (tail_of x) ≡ tail_of x
 past_end zero x = refl
-past_end (suc j) (AtomBound a) = refl
-past_end (suc j) (OpBound p) = refl
+past_end (suc j) (AtomIs a) = refl
+past_end (suc j) (OpIs p) = refl
 
-past_step : (j : ℕ) (x : Bound) (xs : List Bound) (t : Block) → past (suc j) (lets_of (x ∷ xs) t) ≡ past j (lets_of xs t)
-past_step j (AtomBound a) xs t = refl
-past_step j (OpBound p) xs t = refl
+past_step : (j : ℕ) (x : Bound) (xs : List Bound) (t : Block) → past (suc j) (block_of (x ∷ xs) t) ≡ past j (block_of xs t)
+past_step j (AtomIs a) xs t = refl
+past_step j (OpIs p) xs t = refl
 
-past_is : (ops : List LiftedOp) (x : Bound) (j : ℕ) → past j (lets_of (bounds_of ops) (ret_of x)) ≡ lets_of (bounds_of (drop j ops)) (ret_of x)
-past_is [] x j = past_end j x ∙ ap (λ (os : List LiftedOp). lets_of (bounds_of os) (ret_of x)) (sym (drop_all j [] (omega arith)))
+past_is : (ops : List LiftedOp) (x : Bound) (j : ℕ) → past j (block_of (bounds_of ops) (tail_of x)) ≡ block_of (bounds_of (drop j ops)) (tail_of x)
+past_is [] x j = past_end j x ∙ ap (λ (os : List LiftedOp). block_of (bounds_of os) (tail_of x)) (sym (drop_all j [] (omega arith)))
 past_is (o ∷ ops) x zero = refl
-past_is (o ∷ ops) x (suc j) = past_step j (seen o) (bounds_of ops) (ret_of x) ∙ past_is ops x j
+past_is (o ∷ ops) x (suc j) = past_step j (seen o) (bounds_of ops) (tail_of x) ∙ past_is ops x j
 
 -- a block's bindings from the last on
-module _ (ops : List LiftedOp) (x : Bound) (b : Block) (n : ℕ) (whole : lets_of (bounds_of ops) (ret_of x) ≡ b) (size : n ≡ length ops) where
-  past_all : past (n - 0) b ≡ ret_of x
-  past_all = ap (λ (t : Block). past (n - 0) t) (sym whole) ∙ past_is ops x (n - 0) ∙ ap (λ (os : List LiftedOp). lets_of (bounds_of os) (ret_of x)) (drop_all (n - 0) ops (omega (arith, size)))
+module _ (ops : List LiftedOp) (x : Bound) (b : Block) (n : ℕ) (whole : block_of (bounds_of ops) (tail_of x) ≡ b) (size : n ≡ length ops) where
+  past_all : past (n - 0) b ≡ tail_of x
+  past_all = ap (λ (t : Block). past (n - 0) t) (sym whole) ∙ past_is ops x (n - 0) ∙ ap (λ (os : List LiftedOp). block_of (bounds_of os) (tail_of x)) (drop_all (n - 0) ops (omega (arith, size)))
 
   pub noted_init : (old mid new : List Times) → mid ≡ replicate n Never ++ old → new ≡ also (λ i. bound_reads i x) mid → new ≡ also (λ i. block_reads i (past (n - 0) b)) (replicate (n - 0) Never ++ old)
   noted_init old mid new em en =
@@ -342,18 +340,18 @@ module _ (ops : List LiftedOp) (x : Bound) (b : Block) (n : ℕ) (whole : lets_o
 
   module _ (k : ℕ) (o : LiftedOp) (lt : k < n) (is : o ≡ get_or ops (n - 1 - k) o) where
     abbrev behind : Block
-    behind = lets_of (bounds_of (drop (n - k) ops)) (ret_of x)
+    behind = block_of (bounds_of (drop (n - k) ops)) (tail_of x)
 
     past_now : past (n - k) b ≡ behind
     past_now = ap (λ (t : Block). past (n - k) t) (sym whole) ∙ past_is ops x (n - k)
 
-    past_next : past (n - (k + 1)) b ≡ lets_of (seen o ∷ bounds_of (drop (n - k) ops)) (ret_of x)
+    past_next : past (n - (k + 1)) b ≡ block_of (seen o ∷ bounds_of (drop (n - k) ops)) (tail_of x)
     past_next =
         let j : n - 1 - k ≡ n - (k + 1) = omega arith in
         let s : n - (k + 1) + 1 ≡ n - k = omega arith in
         ap (λ (t : Block). past (n - (k + 1)) t) (sym whole) ∙ past_is ops x (n - (k + 1))
-        ∙ ap (λ (os : List LiftedOp). lets_of (bounds_of os) (ret_of x)) (next_is ops (n - (k + 1)) o (omega (arith, size, lt)) (is ∙ ap (λ (i : ℕ). get_or ops i o) j))
-        ∙ ap (λ (i : ℕ). lets_of (seen o ∷ bounds_of (drop i ops)) (ret_of x)) s
+        ∙ ap (λ (os : List LiftedOp). block_of (bounds_of os) (tail_of x)) (next_is ops (n - (k + 1)) o (omega (arith, size, lt)) (is ∙ ap (λ (i : ℕ). get_or ops i o) j))
+        ∙ ap (λ (i : ℕ). block_of (seen o ∷ bounds_of (drop i ops)) (tail_of x)) s
 
     pub noted_more : (old notes new : List Times) → notes ≡ also (λ i. block_reads i (past (n - k) b)) (replicate (n - k) Never ++ old) → new ≡ also (λ i. bound_reads i (seen o)) (drop 1 notes) →
         new ≡ also (λ i. block_reads i (past (n - (k + 1)) b)) (replicate (n - (k + 1)) Never ++ old)
@@ -364,7 +362,7 @@ module _ (ops : List LiftedOp) (x : Bound) (b : Block) (n : ℕ) (whole : lets_o
         inv ∙ ap (λ (t : Block). also (λ i. block_reads i t) (replicate (n - k) Never ++ old)) past_now ∙ ap (λ (j : ℕ). also (λ i. block_reads i behind) (replicate j Never ++ old)) s in
         e ∙ ap (λ (zs : List Times). also (λ i. bound_reads i (seen o)) (drop 1 zs)) one ∙ also_both (λ i. block_reads (suc i) behind) (λ i. bound_reads i (seen o)) rs
         ∙ also_same (λ i. bound_reads i (seen o) plus block_reads (suc i) behind) (λ i. block_reads i (past (n - (k + 1)) b)) rs
-        (λ i. sym (block_reads_step i (seen o) (bounds_of (drop (n - k) ops)) (ret_of x)) ∙ ap (λ (t : Block). block_reads i t) (sym past_next))
+        (λ i. sym (block_reads_step i (seen o) (bounds_of (drop (n - k) ops)) (tail_of x)) ∙ ap (λ (t : Block). block_reads i t) (sym past_next))
 
     pub marked_more : (old marks new : List Bool) (notes notes0 : List Times) → notes ≡ also (λ i. block_reads i (past (n - k) b)) (replicate (n - k) Never ++ notes0) → marks ≡ block_marks (past (n - k) b) ++ old → new ≡ is_read (get_or notes 0 More) ∷ (bound_marks (seen o) ++ marks) →
         new ≡ block_marks (past (n - (k + 1)) b) ++ old
@@ -375,13 +373,13 @@ module _ (ops : List LiftedOp) (x : Bound) (b : Block) (n : ℕ) (whole : lets_o
         ∙ also_first (λ i. block_reads i behind) (n - (k + 1)) notes0 in
         e ∙ ap (λ (z : Times). is_read z ∷ (bound_marks (seen o) ++ marks)) first ∙ ap (λ (zs : List Bool). is_read (block_reads 0 behind) ∷ (bound_marks (seen o) ++ zs)) (at ∙ ap (λ (t : Block). block_marks t ++ old) past_now)
         ∙ ap (λ (zs : List Bool). is_read (block_reads 0 behind) ∷ zs) (sym (append_assoc (bound_marks (seen o)) (block_marks behind) old))
-        ∙ ap (λ (ms : List Bool). ms ++ old) (sym (ap block_marks past_next ∙ block_marks_step (seen o) (bounds_of (drop (n - k) ops)) (ret_of x)))
+        ∙ ap (λ (ms : List Bool). ms ++ old) (sym (ap block_marks past_next ∙ block_marks_step (seen o) (bounds_of (drop (n - k) ops)) (tail_of x)))
 
 -- the branches of one kind from the last on
-module _ (read : ℕ → BranchBlocks → Times) (marks_of : BranchBlocks → List Bool) (none : (i : ℕ) → read i BNil ≡ Never) (no_marks : marks_of BNil ≡ [])
-    (step : (i n : ℕ) (t : Block) (bs : BranchBlocks) → read i (BCons n t BNil) plus read i bs ≡ read i (BCons n t bs)) (marks_step : (n : ℕ) (t : Block) (bs : BranchBlocks) → marks_of (BCons n t bs) ≡ marks_of (BCons n t BNil) ++ marks_of bs)
+module _ (read : ℕ → BranchBlocks → Times) (marks_of : BranchBlocks → List Bool) (none : (i : ℕ) → read i NoBranch ≡ Never) (no_marks : marks_of NoBranch ≡ [])
+    (step : (i n : ℕ) (t : Block) (bs : BranchBlocks) → read i (Branch n t NoBranch) plus read i bs ≡ read i (Branch n t bs)) (marks_step : (n : ℕ) (t : Block) (bs : BranchBlocks) → marks_of (Branch n t bs) ≡ marks_of (Branch n t NoBranch) ++ marks_of bs)
     (bs : List LiftedBranch) (n : ℕ) (size : n ≡ length bs) where
-  nothing_left : branches_of (drop (n - 0) bs) ≡ BNil
+  nothing_left : branches_of (drop (n - 0) bs) ≡ NoBranch
   nothing_left = ap branches_of (drop_all (n - 0) bs (omega (arith, size)))
 
   pub arms_noted_init : (old : List Times) → old ≡ also (λ i. read i (branches_of (drop (n - 0) bs))) old
@@ -391,11 +389,11 @@ module _ (read : ℕ → BranchBlocks → Times) (marks_of : BranchBlocks → Li
   arms_marked_init old = ap (λ (ms : List Bool). ms ++ old) (sym (ap marks_of nothing_left ∙ no_marks))
 
   module _ (k : ℕ) (b : LiftedBranch) (lt : k < n) (is : b ≡ get_or bs (n - 1 - k) b) where
-    next_branch : branches_of (drop (n - (k + 1)) bs) ≡ BCons b.binders b.body (branches_of (drop (n - k) bs))
+    next_branch : branches_of (drop (n - (k + 1)) bs) ≡ Branch b.binders b.body (branches_of (drop (n - k) bs))
     next_branch =
         let j : n - 1 - k ≡ n - (k + 1) = omega arith in
         let s : n - (k + 1) + 1 ≡ n - k = omega arith in
-        ap branches_of (next_is bs (n - (k + 1)) b (omega (arith, size, lt)) (is ∙ ap (λ (i : ℕ). get_or bs i b) j)) ∙ ap (λ (i : ℕ). BCons b.binders b.body (branches_of (drop i bs))) s
+        ap branches_of (next_is bs (n - (k + 1)) b (omega (arith, size, lt)) (is ∙ ap (λ (i : ℕ). get_or bs i b) j)) ∙ ap (λ (i : ℕ). Branch b.binders b.body (branches_of (drop i bs))) s
 
     pub arms_noted_more : (old notes new : List Times) → notes ≡ also (λ i. read i (branches_of (drop (n - k) bs))) old → new ≡ also (λ i. read i (branches_of (b ∷ []))) notes → new ≡ also (λ i. read i (branches_of (drop (n - (k + 1)) bs))) old
     arms_noted_more old notes new inv e =
@@ -415,7 +413,7 @@ field_unmarked (suc zero) r ne = absurd (ne refl)
 field_unmarked (suc (suc n)) r ne = refl
 
 -- the mark of a branch of one variable
-pub field_marked : (n : ℕ) (t : Block) (notes before : List Times) (marks old new : List Bool) → 0 < n → notes ≡ also (λ i. block_reads i t) (replicate n Never ++ before) → marks ≡ block_marks t ++ old → new ≡ field_marks n (get_or notes 0 More) ++ marks → new ≡ head_marks (BCons n t BNil) ++ old
+pub field_marked : (n : ℕ) (t : Block) (notes before : List Times) (marks old new : List Bool) → 0 < n → notes ≡ also (λ i. block_reads i t) (replicate n Never ++ before) → marks ≡ block_marks t ++ old → new ≡ field_marks n (get_or notes 0 More) ++ marks → new ≡ head_marks (Branch n t NoBranch) ++ old
 field_marked zero t notes before marks old new some noted at e = absurd (omega arith)
 field_marked (suc n) t notes before marks old new some noted at e =
     let first : get_or notes 0 More ≡ block_reads 0 t = ap (λ (zs : List Times). get_or zs 0 More) noted ∙ also_first (λ i. block_reads i t) n before in
@@ -423,7 +421,7 @@ field_marked (suc n) t notes before marks old new some noted at e =
     ∙ ap (λ (ms : List Bool). ms ++ old) (sym (fielded_marks (suc n) t some))
 
 -- a branch's binders are gone behind it
-pub binders_gone : (n : ℕ) (t : Block) (xs0 xs1 xs2 xs3 : List Times) → 0 < n → reverse xs1 ≡ replicate n Never ++ reverse xs0 → reverse xs2 ≡ also (λ i. block_reads i t) (reverse xs1) → xs3 ≡ take (length xs0) xs2 → reverse xs3 ≡ also (λ i. heads_read i (BCons n t BNil)) (reverse xs0)
+pub binders_gone : (n : ℕ) (t : Block) (xs0 xs1 xs2 xs3 : List Times) → 0 < n → reverse xs1 ≡ replicate n Never ++ reverse xs0 → reverse xs2 ≡ also (λ i. block_reads i t) (reverse xs1) → xs3 ≡ take (length xs0) xs2 → reverse xs3 ≡ also (λ i. heads_read i (Branch n t NoBranch)) (reverse xs0)
 binders_gone zero t xs0 xs1 xs2 xs3 some e1 e2 e3 = absurd (omega arith)
 binders_gone (suc n) t xs0 xs1 xs2 xs3 some e1 e2 e3 =
     let all : reverse xs2 ≡ also (λ i. block_reads i t) (replicate (suc n) Never ++ reverse xs0) = e2 ∙ ap (λ (zs : List Times). also (λ i. block_reads i t) zs) e1 in
@@ -431,7 +429,7 @@ binders_gone (suc n) t xs0 xs1 xs2 xs3 some e1 e2 e3 =
     sym (length-reverse xs2) ∙ ap length all ∙ also_length (λ i. block_reads i t) (replicate (suc n) Never ++ reverse xs0) ∙ length-append (replicate (suc n) Never) (reverse xs0) ∙ ap (λ (k : ℕ). k + length (reverse xs0)) (length-replicate (suc n) Never) ∙ ap (λ (k : ℕ). suc n + k) (length-reverse xs0) in
     let gone : length xs2 - length xs0 ≡ suc n = omega (arith, long) in
     ap reverse e3 ∙ reverse_take xs2 (length xs0) (omega (arith, long)) ∙ ap (λ (k : ℕ). drop k (reverse xs2)) gone ∙ ap (λ (zs : List Times). drop (suc n) zs) all ∙ also_past (λ i. block_reads i t) (suc n) (reverse xs0)
-    ∙ also_same (λ i. block_reads (suc n + i) t) (λ i. heads_read i (BCons (suc n) t BNil)) (reverse xs0) (λ i. sym (plus_never (block_reads (suc n + i) t)))
+    ∙ also_same (λ i. block_reads (suc n + i) t) (λ i. heads_read i (Branch (suc n) t NoBranch)) (reverse xs0) (λ i. sym (plus_never (block_reads (suc n + i) t)))
 
 -- the walk has come to the front of a block
 pub noted_end : (b : Block) (n k : ℕ) → n ≤ k → (old new : List Times) → new ≡ also (λ i. block_reads i (past (n - k) b)) (replicate (n - k) Never ++ old) → new ≡ also (λ i. block_reads i b) old
@@ -441,11 +439,11 @@ pub marked_end : (b : Block) (n k : ℕ) → n ≤ k → (old new : List Bool) �
 marked_end b n k le old new e = let z : n - k ≡ 0 = omega arith in e ∙ ap (λ (j : ℕ). block_marks (past j b) ++ old) z
 
 -- a branch of the other kind
-pub no_heads : (i n : ℕ) (t : Block) → n ≡ 0 → heads_read i (BCons n t BNil) ≡ Never
+pub no_heads : (i n : ℕ) (t : Block) → n ≡ 0 → heads_read i (Branch n t NoBranch) ≡ Never
 no_heads i zero t e = refl
 no_heads i (suc n) t e = absurd (omega arith)
 
-pub no_empties : (i n : ℕ) (t : Block) → 0 < n → empties_read i (BCons n t BNil) ≡ Never
+pub no_empties : (i n : ℕ) (t : Block) → 0 < n → empties_read i (Branch n t NoBranch) ≡ Never
 no_empties i zero t e = absurd (omega arith)
 no_empties i (suc n) t e = refl
 
@@ -457,15 +455,15 @@ branches_noted bs xs ys old mid new ex ey em en =
 
 -- The first marks where the code of a block has come to a binding.
 
-pub end_marks : (items : List LiftedOp) (i : ℕ) (x : Bound) → length items ≤ i → block_marks (lets_of (bounds_of (drop i items)) (ret_of x)) ≡ bound_marks x
-end_marks items i x le = ap (λ (os : List LiftedOp). block_marks (lets_of (bounds_of os) (ret_of x))) (drop_all i items le) ∙ block_marks_end x
+pub end_marks : (items : List LiftedOp) (i : ℕ) (x : Bound) → length items ≤ i → block_marks (block_of (bounds_of (drop i items)) (tail_of x)) ≡ bound_marks x
+end_marks items i x le = ap (λ (os : List LiftedOp). block_marks (block_of (bounds_of os) (tail_of x))) (drop_all i items le) ∙ block_marks_end x
 
-module _ (items : List LiftedOp) (i : ℕ) (o : LiftedOp) (t : Block) (lt : i < length items) (is : o ≡ get_or items i o) (all : List Bool) (h : Begins (block_marks (lets_of (bounds_of (drop i items)) t)) all) where
+module _ (items : List LiftedOp) (i : ℕ) (o : LiftedOp) (t : Block) (lt : i < length items) (is : o ≡ get_or items i o) (all : List Bool) (h : Begins (block_marks (block_of (bounds_of (drop i items)) t)) all) where
   abbrev rest : Block
-  rest = lets_of (bounds_of (drop (i + 1) items)) t
+  rest = block_of (bounds_of (drop (i + 1) items)) t
 
-  marks_now : block_marks (lets_of (bounds_of (drop i items)) t) ≡ is_read (block_reads 0 rest) ∷ (bound_marks (seen o) ++ block_marks rest)
-  marks_now = ap (λ (os : List LiftedOp). block_marks (lets_of (bounds_of os) t)) (next_is items i o lt is) ∙ block_marks_step (seen o) (bounds_of (drop (i + 1) items)) t
+  marks_now : block_marks (block_of (bounds_of (drop i items)) t) ≡ is_read (block_reads 0 rest) ∷ (bound_marks (seen o) ++ block_marks rest)
+  marks_now = ap (λ (os : List LiftedOp). block_marks (block_of (bounds_of os) t)) (next_is items i o lt is) ∙ block_marks_step (seen o) (bounds_of (drop (i + 1) items)) t
 
   begin_now : Begins (is_read (block_reads 0 rest) ∷ (bound_marks (seen o) ++ block_marks rest)) all
   begin_now = subst (λ ms. Begins ms all) marks_now h
@@ -479,7 +477,7 @@ module _ (items : List LiftedOp) (i : ℕ) (o : LiftedOp) (t : Block) (lt : i < 
   pub begin_behind : (new : List Bool) → new ≡ drop (length (bound_marks (seen o))) (drop 1 all) → Begins (block_marks rest) new
   begin_behind new e = subst (λ ms. Begins (block_marks rest) ms) (sym e) (begins_second (bound_marks (seen o)) (block_marks rest) (drop 1 all) (next_marks (is_read (block_reads 0 rest)) (bound_marks (seen o) ++ block_marks rest) all begin_now))
 
-  pub left_behind : (new : List Bool) → new ≡ drop (length (bound_marks (seen o))) (drop 1 all) → drop (length (block_marks rest)) new ≡ drop (length (block_marks (lets_of (bounds_of (drop i items)) t))) all
+  pub left_behind : (new : List Bool) → new ≡ drop (length (bound_marks (seen o))) (drop 1 all) → drop (length (block_marks rest)) new ≡ drop (length (block_marks (block_of (bounds_of (drop i items)) t))) all
   left_behind new e =
       ap (λ (ms : List Bool). drop (length (block_marks rest)) ms) e ∙ drops (bound_marks (seen o)) (block_marks rest) (drop 1 all) (next_marks (is_read (block_reads 0 rest)) (bound_marks (seen o) ++ block_marks rest) all begin_now)
       ∙ drop_next (is_read (block_reads 0 rest)) (bound_marks (seen o) ++ block_marks rest) all begin_now ∙ ap (λ (ms : List Bool). drop (length ms) all) (sym marks_now)
@@ -498,7 +496,7 @@ field_passed (suc zero) t ne = absurd (ne refl)
 field_passed (suc (suc n)) t ne = (refl, refl)
 
 -- and to a branch of one kind
-module _ (marks_of : BranchBlocks → List Bool) (marks_step : (n : ℕ) (t : Block) (bs : BranchBlocks) → marks_of (BCons n t bs) ≡ marks_of (BCons n t BNil) ++ marks_of bs)
+module _ (marks_of : BranchBlocks → List Bool) (marks_step : (n : ℕ) (t : Block) (bs : BranchBlocks) → marks_of (Branch n t bs) ≡ marks_of (Branch n t NoBranch) ++ marks_of bs)
     (bs : List LiftedBranch) (c : ℕ) (b : LiftedBranch) (lt : c < length bs) (is : b ≡ get_or bs c b) (all : List Bool) (h : Begins (marks_of (branches_of (drop c bs))) all) where
   arm_marks : marks_of (branches_of (drop c bs)) ≡ marks_of (branches_of (b ∷ [])) ++ marks_of (branches_of (drop (c + 1) bs))
   arm_marks = ap (λ (xs : List LiftedBranch). marks_of (branches_of xs)) (next_is bs c b lt is) ∙ marks_step b.binders b.body (branches_of (drop (c + 1) bs))

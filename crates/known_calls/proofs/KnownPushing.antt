@@ -3,7 +3,7 @@ use Rattle.std.proofs.Common.{◌≡◌, ℕ, zero, suc, ◌+◌, ◌-◌, ◌*�
 use Rattle.std.proofs.lemmas.List.{length-drop, get_or-reverse, length-reverse, reverse-append}
 use Rattle.std.specs.Prelude.{if◌then◌else◌}
 use Rattle.anf_convert.specs.declared.program.Atom.{Atom}
-use Rattle.closure_lift.specs.Lifted.{Op, Block, Program, Bound, AtomBound, OpBound, ret_of, lets_of}
+use Rattle.closure_lift.specs.Lifted.{Op, Block, Program, Bound, AtomIs, OpIs, tail_of, block_of}
 use Rattle.closure_lift.specs.LiftedProgram.{renumber_op, renumber, place_in, lifted_of}
 use Rattle.closure_lift.specs.LiftedView.{seen, bounds_of}
 use Rattle.closure_lift.specs.declared.program.Lifted.{Lifted}
@@ -40,45 +40,45 @@ under_sum n k (InTail g d) = let e : d + k + n ≡ d + (k + n) = omega arith in 
 -- A binding of a block, and its end.
 module _ (P : Program) (f : ℕ → ℕ) (env : List Place) (d : ℕ) (at : Position) where
   chosen : (x : Op) (t : Block) (rest : List Instr) (o : Option Place) →
-      choose o (λ q. code P (q ∷ env) d at t rest) (into_local env d x (op P env d Inside x) (code P (At (InLocal d) ∷ env) (suc d) at t rest)) ≡ bind_code P env d (OpBound x) o (code P (place_bound d o ∷ env) (local_behind d o) at t rest)
+      choose o (λ q. code P (q ∷ env) d at t rest) (into_local env d x (op P env d Inside x) (code P (At (InLocal d) ∷ env) (suc d) at t rest)) ≡ bind_code P env d (OpIs x) o (code P (place_bound d o ∷ env) (local_behind d o) at t rest)
   chosen x t rest None = refl
   chosen x t rest (Some q) = refl
 
   made_atom : (a : Atom) (t : Block) (rest : List Instr) (b : Bool) →
-      atom env a (LocalSet d ∷ code P (At (InLocal d) ∷ env) (suc d) at t rest) ≡ bind_code P env d (AtomBound a) (bound_unmade P env b (AtomBound a)) (code P (place_bound d (bound_unmade P env b (AtomBound a)) ∷ env) (local_behind d (bound_unmade P env b (AtomBound a))) at t rest)
+      atom env a (LocalSet d ∷ code P (At (InLocal d) ∷ env) (suc d) at t rest) ≡ bind_code P env d (AtomIs a) (bound_unmade P env b (AtomIs a)) (code P (place_bound d (bound_unmade P env b (AtomIs a)) ∷ env) (local_behind d (bound_unmade P env b (AtomIs a))) at t rest)
   made_atom a t rest true = refl
   made_atom a t rest false = refl
 
   -- the rest of the block, behind the binding
   abbrev pub behind : Bool → Bound → List Bound → Block → List Instr → List Instr
-  behind b x xs t rest = code P (place_bound d (bound_unmade P env b (renumber_bound f x)) ∷ env) (local_behind d (bound_unmade P env b (renumber_bound f x))) at (renumber f (lets_of xs t)) rest
+  behind b x xs t rest = code P (place_bound d (bound_unmade P env b (renumber_bound f x)) ∷ env) (local_behind d (bound_unmade P env b (renumber_bound f x))) at (renumber f (block_of xs t)) rest
 
   pub code_step : (x : Bound) (xs : List Bound) (t : Block) (rest : List Instr) →
-      code P env d at (renumber f (lets_of (x ∷ xs) t)) rest ≡ bind_code P env d (renumber_bound f x) (bound_unmade P env (is_read (block_reads 0 (lets_of xs t))) (renumber_bound f x)) (behind (is_read (block_reads 0 (lets_of xs t))) x xs t rest)
-  code_step (AtomBound a) xs t rest = made_atom a (renumber f (lets_of xs t)) rest (is_read (block_reads 0 (lets_of xs t)))
-  code_step (OpBound x) xs t rest =
-      ap (λ (r : Times). choose (if is_read r then None else known P env (renumber_op f x)) (λ q. code P (q ∷ env) d at (renumber f (lets_of xs t)) rest)
-      (into_local env d (renumber_op f x) (op P env d Inside (renumber_op f x)) (code P (At (InLocal d) ∷ env) (suc d) at (renumber f (lets_of xs t)) rest))) (reads_renumbered f 0 (lets_of xs t))
-      ∙ chosen (renumber_op f x) (renumber f (lets_of xs t)) rest (if is_read (block_reads 0 (lets_of xs t)) then None else known P env (renumber_op f x))
+      code P env d at (renumber f (block_of (x ∷ xs) t)) rest ≡ bind_code P env d (renumber_bound f x) (bound_unmade P env (is_read (block_reads 0 (block_of xs t))) (renumber_bound f x)) (behind (is_read (block_reads 0 (block_of xs t))) x xs t rest)
+  code_step (AtomIs a) xs t rest = made_atom a (renumber f (block_of xs t)) rest (is_read (block_reads 0 (block_of xs t)))
+  code_step (OpIs x) xs t rest =
+      ap (λ (r : Times). choose (if is_read r then None else known P env (renumber_op f x)) (λ q. code P (q ∷ env) d at (renumber f (block_of xs t)) rest)
+      (into_local env d (renumber_op f x) (op P env d Inside (renumber_op f x)) (code P (At (InLocal d) ∷ env) (suc d) at (renumber f (block_of xs t)) rest))) (reads_renumbered f 0 (block_of xs t))
+      ∙ chosen (renumber_op f x) (renumber f (block_of xs t)) rest (if is_read (block_reads 0 (block_of xs t)) then None else known P env (renumber_op f x))
 
-  pub code_end : (x : Bound) (rest : List Instr) → code P env d at (renumber f (ret_of x)) rest ≡ bound_code P env d at (renumber_bound f x) rest
-  code_end (AtomBound a) rest = refl
-  code_end (OpBound x) rest = refl
+  pub code_end : (x : Bound) (rest : List Instr) → code P env d at (renumber f (tail_of x)) rest ≡ bound_code P env d at (renumber_bound f x) rest
+  code_end (AtomIs a) rest = refl
+  code_end (OpIs x) rest = refl
 
 -- a binding of a block was pushed
 pub block_more : (Q : Lifted) (items : List LiftedOp) (i : ℕ) (o : LiftedOp) (t : Block) (ps ps2 : List Place) (d next : ℕ) (at : Position) (b : Bool) (old new out : List Instr) (g : List Instr → List Instr) → i < length items → o ≡ get_or items i o →
-    b ≡ is_read (block_reads 0 (lets_of (bounds_of (drop (i + 1) items)) t)) → ps2 ≡ ps ++ place_bound d (op_unmade Q (reverse ps) b (seen o)) ∷ [] → next ≡ local_behind d (op_unmade Q (reverse ps) b (seen o)) → Pushed old new (binding_code Q (reverse ps) d b (seen o)) →
-    ((rest : List Instr) → old ++ block_code Q (reverse ps) d at (lets_of (bounds_of (drop i items)) t) rest ≡ out ++ g rest) → (rest : List Instr) → new ++ block_code Q (reverse ps2) next at (lets_of (bounds_of (drop (i + 1) items)) t) rest ≡ out ++ g rest
+    b ≡ is_read (block_reads 0 (block_of (bounds_of (drop (i + 1) items)) t)) → ps2 ≡ ps ++ place_bound d (op_unmade Q (reverse ps) b (seen o)) ∷ [] → next ≡ local_behind d (op_unmade Q (reverse ps) b (seen o)) → Pushed old new (binding_code Q (reverse ps) d b (seen o)) →
+    ((rest : List Instr) → old ++ block_code Q (reverse ps) d at (block_of (bounds_of (drop i items)) t) rest ≡ out ++ g rest) → (rest : List Instr) → new ++ block_code Q (reverse ps2) next at (block_of (bounds_of (drop (i + 1) items)) t) rest ≡ out ++ g rest
 block_more Q items i o t ps ps2 d next at b old new out g lt is mark more after x inv rest =
     let xs = bounds_of (drop (i + 1) items) in
     let f = place_in Q.constants in
     let env : reverse ps2 ≡ place_bound d (op_unmade Q (reverse ps) b (seen o)) ∷ reverse ps = ap reverse more ∙ reverse-append ps (place_bound d (op_unmade Q (reverse ps) b (seen o)) ∷ []) in
-    ap (λ (zs : List Place). new ++ block_code Q zs next at (lets_of xs t) rest) env
-    ∙ ap (λ (n : ℕ). new ++ block_code Q (place_bound d (op_unmade Q (reverse ps) b (seen o)) ∷ reverse ps) n at (lets_of xs t) rest) after
+    ap (λ (zs : List Place). new ++ block_code Q zs next at (block_of xs t) rest) env
+    ∙ ap (λ (n : ℕ). new ++ block_code Q (place_bound d (op_unmade Q (reverse ps) b (seen o)) ∷ reverse ps) n at (block_of xs t) rest) after
     ∙ x.is (behind (lifted_of Q) f (reverse ps) d at b (seen o) xs t rest)
     ∙ ap (λ (c : Bool). old ++ bind_code (lifted_of Q) (reverse ps) d (renumber_bound f (seen o)) (bound_unmade (lifted_of Q) (reverse ps) c (renumber_bound f (seen o))) (behind (lifted_of Q) f (reverse ps) d at c (seen o) xs t rest)) mark
     ∙ ap (λ (zs : List Instr). old ++ zs) (sym (code_step (lifted_of Q) f (reverse ps) d at (seen o) xs t rest))
-    ∙ ap (λ (os : List LiftedOp). old ++ block_code Q (reverse ps) d at (lets_of (bounds_of os) t) rest) (sym (next_is items i o lt is))
+    ∙ ap (λ (os : List LiftedOp). old ++ block_code Q (reverse ps) d at (block_of (bounds_of os) t) rest) (sym (next_is items i o lt is))
     ∙ inv rest
 
 -- A branch's code, where its field was moved or not.

@@ -9,7 +9,7 @@ use Rattle.wasm_core.specs.declared.types.GlobalDef.{GlobalDef}
 use Rattle.wasm_core.specs.declared.exports.Export.{Export}
 use Rattle.wasm_core.specs.Parts.{Parts}
 use Rattle.wasm_core.specs.ShortestBytes.{put_u32, put_all, put_body, put_section, put_segment, put_func_type, put_table_type, put_limits, put_global, put_export, put_instr, unsigned, sizes, module_bytes}
-use Rattle.closure_lift.specs.Lifted.{Op, OConst, OApp, OCon, OClos, OCase, Block, RetAtom, LetAtom, Ret, Let, BranchBlocks, BNil, BCons, Program, Fn}
+use Rattle.closure_lift.specs.Lifted.{Op, ConstOp, AppOp, ConOp, ClosOp, CaseOp, Block, TailAtom, BindAtom, Tail, Bind, BranchBlocks, NoBranch, Branch, Program, Fn}
 use Rattle.closure_lift.specs.LiftedForm.{Formed, Limits}
 use Rattle.wasm_emit.specs.EmittedModule.{type_main, type_constant, type_function, body, entries, main_index}
 use Rattle.wasm_emit.specs.EmittedLocals.{top, top_op, top_branches}
@@ -189,18 +189,18 @@ known_sized P pages m form limits counts =
 -- each local is set by an instruction
 mutual
   op_locals : (d : ℕ) (x : Op) → 4 * top_op d x ≤ 4 * d + op_weight x
-  op_locals d (OConst x) = omega arith
-  op_locals d (OApp f a) = omega arith
-  op_locals d (OCon c as') = omega arith
-  op_locals d (OClos g as') = omega arith
-  op_locals d (OCase a bs) = omega (arith, branches_locals (suc d) bs)
+  op_locals d (ConstOp x) = omega arith
+  op_locals d (AppOp f a) = omega arith
+  op_locals d (ConOp c as') = omega arith
+  op_locals d (ClosOp g as') = omega arith
+  op_locals d (CaseOp a bs) = omega (arith, branches_locals (suc d) bs)
 
   pub locals_bound : LocalsBound
-  locals_bound d (RetAtom a) = omega arith
-  locals_bound d (LetAtom a t) = omega (arith, locals_bound (suc d) t)
-  locals_bound d (Ret x) = op_locals d x
-  locals_bound d (Let x t) = omega (arith, op_locals d x, locals_bound (suc d) t)
+  locals_bound d (TailAtom a) = omega arith
+  locals_bound d (BindAtom a t) = omega (arith, locals_bound (suc d) t)
+  locals_bound d (Tail x) = op_locals d x
+  locals_bound d (Bind x t) = omega (arith, op_locals d x, locals_bound (suc d) t)
 
   branches_locals : (d : ℕ) (bs : BranchBlocks) → 4 * top_branches d bs ≤ 4 * d + branches_weight bs
-  branches_locals d BNil = omega arith
-  branches_locals d (BCons n t bs) = omega (arith, locals_bound d t, branches_locals d bs)
+  branches_locals d NoBranch = omega arith
+  branches_locals d (Branch n t bs) = omega (arith, locals_bound d t, branches_locals d bs)

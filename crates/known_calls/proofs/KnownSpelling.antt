@@ -13,7 +13,7 @@ use Rattle.wasm_core.specs.declared.types.GlobalDef.{GlobalDef}
 use Rattle.wasm_core.specs.declared.exports.Export.{Export}
 use Rattle.wasm_core.specs.ModuleCondition.{All, IsU32, IsFuncType, IsBody, IsExport, IsGlobal, IsModule}
 use Rattle.anf_convert.specs.declared.program.Atom.TheVariants.{Var as AVar}
-use Rattle.closure_lift.specs.Lifted.{OApp, Block, Fn, Program}
+use Rattle.closure_lift.specs.Lifted.{AppOp, Block, Fn, Program}
 use Rattle.closure_lift.specs.LiftedForm.{Formed, Limits}
 use Rattle.wasm_emit.specs.EmittedCode.{ConstWord}
 use Rattle.wasm_emit.specs.EmittedLocals.{top}
@@ -147,7 +147,7 @@ pub b_applied : (P : Program) (m : ℕ) (form : Formed P m) (counts : CountsFit 
 b_applied P m form counts limits zero few = b_most _ (omega arith) (b_code P m form counts limits 0 0 [] Inside P.main (omega (arith, counts.main)) tt form.main)
 b_applied P m form counts limits (suc n) few =
     b_most _ (omega arith) (b_applied P m form counts limits n (omega arith) then (b_set 0 (omega arith) then (b_get_global 3 (omega arith) then (b_load (4 * n) (omega arith) then (b_set 1 (omega arith)
-    then b_op P m form counts limits 2 2 (At (InLocal 1) ∷ At (InLocal 0) ∷ []) Inside (OApp (AVar 1) (AVar 0)) (omega arith) (omega arith, (omega arith, tt)) (omega arith, omega arith))))))
+    then b_op P m form counts limits 2 2 (At (InLocal 1) ∷ At (InLocal 0) ∷ []) Inside (AppOp (AVar 1) (AVar 0)) (omega arith) (omega arith, (omega arith, tt)) (omega arith, omega arith))))))
 
 pub known_call_spelled : (P : Program) (k pages m : ℕ) → k ≤ 255 → 0 < pages → pages ≤ 16384 → Formed P m → Limits P → CountsFit P m → IsModule (module_of_call P k pages)
 known_call_spelled P k pages m few pos small form limits counts =

@@ -16,7 +16,7 @@ use Rattle.wasm_core.specs.Runs.{store_of}
 use Rattle.wasm_core.specs.Answer.{i32_of}
 use Rattle.wasm_core.proofs.Small.{no, some_of}
 use Rattle.anf_convert.specs.declared.program.Atom.TheVariants.{Var as AVar}
-use Rattle.closure_lift.specs.Lifted.{OApp, Fn, Program}
+use Rattle.closure_lift.specs.Lifted.{AppOp, Fn, Program}
 use Rattle.wasm_emit.specs.CallLaws.{call_start}
 use Rattle.wasm_emit.specs.CallModule.{call_globals, call_exports}
 use Rattle.wasm_emit.specs.EmittedLocals.{top}
@@ -36,7 +36,7 @@ main_wary P = (shaped_code P [] 0 Inside P.main).wary (w_cons (λ z. omega arith
 
 w_applied : (P : Program) (n : ℕ) {rest : List Instr} → Wary rest → Wary (applied P n rest)
 w_applied P zero w = (shaped_code P [] 0 Inside P.main).wary w
-w_applied P (suc n) w = w_applied P n (w_cons tt (w_cons tt (w_cons tt (w_cons tt ((shaped_op P (At (InLocal 1) ∷ At (InLocal 0) ∷ []) 2 Inside (OApp (AVar 1) (AVar 0))).wary w)))))
+w_applied P (suc n) w = w_applied P n (w_cons tt (w_cons tt (w_cons tt (w_cons tt ((shaped_op P (At (InLocal 1) ∷ At (InLocal 0) ∷ []) 2 Inside (AppOp (AVar 1) (AVar 0))).wary w)))))
 
 entry_wary : (P : Program) (g : ℕ) (f : Fn) → Wary (entry P g f).code
 entry_wary P g f = either (is_wide f)

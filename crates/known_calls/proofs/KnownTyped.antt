@@ -1,7 +1,7 @@
 -- Emitted code has a typing.
 use Rattle.std.proofs.Common.{◌≡◌, ℕ, zero, suc, ◌+◌, ◌/◌, ◌<◌, ◌≤◌, List, [], ◌∷◌, ◌++◌, length, take, drop, replicate, Option, Some, None, Bool, true, false, refl, ap, sym, ◌∙◌, subst, arith, get_or}
 use Rattle.std.proofs.lemmas.Bool.{and_parts, eqb-true}
-use Rattle.std.proofs.lemmas.Option.{slice_get-get_or}
+use Rattle.std.proofs.lemmas.Option.{same_Some, slice_get-get_or}
 use Rattle.std.specs.Option.{option_map, option_and_then}
 use Rattle.std.specs.Prelude.{slice_get, reverse, max, nat_eq, nat_le, if◌then◌else◌, ◌||◌}
 use Rattle.wasm_core.specs.declared.types.ValType.TheVariants.{I32}
@@ -17,7 +17,7 @@ use Rattle.wasm_core.specs.ModuleTyping.{OperandTypes, Operands, Of, known as kn
 use Rattle.wasm_core.proofs.TypedRules.{match_known, t_plain, t_one_arm, t_two_arms}
 use Rattle.anf_convert.specs.declared.program.Atom.{Atom}
 use Rattle.anf_convert.specs.AnfForm.{AtomFits, AtomsFit}
-use Rattle.closure_lift.specs.Lifted.{Op, OConst, OApp, OCon, OClos, OCase, Block, RetAtom, LetAtom, Ret, Let, BranchBlocks, BNil, BCons, Fn, Program}
+use Rattle.closure_lift.specs.Lifted.{Op, ConstOp, AppOp, ConOp, ClosOp, CaseOp, Block, TailAtom, BindAtom, Tail, Bind, BranchBlocks, NoBranch, Branch, Fn, Program}
 use Rattle.closure_lift.specs.LiftedForm.{OpFits, LiftedBlockFits, BranchesFit, Formed}
 use Rattle.wasm_emit.specs.EmittedCode.{IfWord, constant_index, ensure_room}
 use Rattle.wasm_emit.specs.EmittedLocals.{top, top_op, top_branches}
@@ -27,7 +27,6 @@ use Rattle.known_calls.specs.KnownModule.{words_type, worker_type, module_with}
 use Rattle.known_calls.specs.KnownTests.{Kind, Bare, Fielded, Alternative, kept, is_some, first_number, equal_test, below_test, bare_test, arm, none, chain, are_many, most_rounds, search, tests}
 use Rattle.known_calls.proofs.Parted.{all_kept, all_take, all_drop}
 use Rattle.known_calls.proofs.Shapes.{Shaped, Wherever, shaped_none, shaped_chain, shaped_search, shaped_alternatives}
-use Rattle.known_calls.proofs.Finding.{same_some}
 use Rattle.known_calls.proofs.Fitting.{WordFits, PlaceFits, places_up, branch_fit, word_fits, function_fits, known_fits}
 use Rattle.known_calls.proofs.Unreading.{unmade_some}
 use Rattle.known_calls.proofs.SameLocals.{top_less}
@@ -239,7 +238,7 @@ module _ (P : Program) (most : ℕ) (form : Formed P most) (main : Body) (gs : L
   t_jump {ts = ts} false g h n depth fn e at is few l k = t_returned ts g n fn at is few l.gives k
   t_jump {ts = ts} true g h n depth fn e at is few l k =
       let same : g ≡ h = eqb-true g h (and_parts (nat_eq g h) (nat_le depth most_blocks) e).0 in
-      let function : fn ≡ l.fn = same_some (sym at ∙ ap (slice_get P.functions) same ∙ l.at) in
+      let function : fn ≡ l.fn = same_Some _ _ (sym at ∙ ap (slice_get P.functions) same ∙ l.at) in
       let captured : fn.captured ≡ l.fn.captured = ap (λ (x : Fn). x.captured) function in
       let params_few = l.few in
       t_params n (omega arith) (br [] ts (record { wanted = []; found = l.found; matched = match_none }) k)
@@ -279,35 +278,35 @@ module _ (P : Program) (most : ℕ) (form : Formed P most) (main : Body) (gs : L
   -- an operation whose word comes into local d
   t_bind : {labels : List OperandTypes} {ts us : Operands} {rest : List Instr} (n d : ℕ) (ps : List Place) (x : Op) {g : List Instr → List Instr} → suc d ≤ size → OpFits P.functions (length P.constants) most n x → All (PlaceFits P far d) ps →
       ((r : List Instr) → Typed m ls rs labels (Of I32 ∷ ts) r us → Typed m ls rs labels ts (g r) us) → Typed m ls rs labels ts rest us → Typed m ls rs labels ts (into_local ps d x g rest) us
-  t_bind n d ps (OCon c as') lt fit h o k = t_new_block n d _ ps as' lt fit.3 h k
-  t_bind n d ps (OClos g as') lt fit h o k = t_new_block n d _ ps as' lt fit.1 h k
-  t_bind n d ps (OConst x) lt fit h o k = o _ (t_set lt k)
-  t_bind n d ps (OApp f a) lt fit h o k = o _ (t_set lt k)
-  t_bind n d ps (OCase a bs) lt fit h o k = o _ (t_set lt k)
+  t_bind n d ps (ConOp c as') lt fit h o k = t_new_block n d _ ps as' lt fit.3 h k
+  t_bind n d ps (ClosOp g as') lt fit h o k = t_new_block n d _ ps as' lt fit.1 h k
+  t_bind n d ps (ConstOp x) lt fit h o k = o _ (t_set lt k)
+  t_bind n d ps (AppOp f a) lt fit h o k = o _ (t_set lt k)
+  t_bind n d ps (CaseOp a bs) lt fit h o k = o _ (t_set lt k)
 
   mutual
     pub t_op : {labels : List OperandTypes} {ts us : Operands} {rest : List Instr} (n d : ℕ) (ps : List Place) (at : Position) (x : Op) → top_op d x ≤ size → OpFits P.functions (length P.constants) most n x → All (PlaceFits P far d) ps → Labelled at labels →
         Typed m ls rs labels (Of I32 ∷ ts) rest us → Typed m ls rs labels ts (op P ps d at x rest) us
-    t_op n d ps at (OConst x) le fit h l k = t_constant at x fit l k
-    t_op n d ps at (OApp f a) le fit h l k = t_application n d ps at f a (known_function ps f) refl le fit.0 fit.1 h l k
-    t_op n d ps at (OCon c as') le fit h l k = t_block n d _ ps as' le fit.3 h k
-    t_op n d ps at (OClos g as') le fit h l k = t_block n d _ ps as' le fit.1 h k
-    t_op n d ps at (OCase a bs) le fit h l k =
+    t_op n d ps at (ConstOp x) le fit h l k = t_constant at x fit l k
+    t_op n d ps at (AppOp f a) le fit h l k = t_application n d ps at f a (known_function ps f) refl le fit.0 fit.1 h l k
+    t_op n d ps at (ConOp c as') le fit h l k = t_block n d _ ps as' le fit.3 h k
+    t_op n d ps at (ClosOp g as') le fit h l k = t_block n d _ ps as' le fit.1 h k
+    t_op n d ps at (CaseOp a bs) le fit h l k =
         t_atom n d ps a (omega arith) fit.0 h (t_set (omega arith) (t_tests d (alternatives P ps d 0 bs) (omega arith) (shaped_alternatives P ps d 0 bs) (t_alternatives n d ps 0 bs (omega arith) fit.2 h) at _ _ _ _ l k))
 
     pub t_code : {labels : List OperandTypes} {ts us : Operands} {rest : List Instr} (n d : ℕ) (ps : List Place) (at : Position) (t : Block) → top d t ≤ size → LiftedBlockFits P.functions (length P.constants) most n t → All (PlaceFits P far d) ps → Labelled at labels →
         Typed m ls rs labels (Of I32 ∷ ts) rest us → Typed m ls rs labels ts (code P ps d at t rest) us
-    t_code n d ps at (RetAtom a) le fit h l k = t_atom n d ps a le fit h k
-    t_code n d ps at (LetAtom a t) le fit h l k = t_atom n d ps a (omega arith) fit.0 h (t_set (omega arith) (t_code (suc n) (suc d) (At (InLocal d) ∷ ps) at t (omega arith) fit.1 (omega arith, places_up P far d (suc d) (omega arith) ps h) l k))
-    t_code n d ps at (Ret x) le fit h l k = t_op n d ps at x le fit h l k
-    t_code n d ps at (Let x t) le fit h l k =
+    t_code n d ps at (TailAtom a) le fit h l k = t_atom n d ps a le fit h k
+    t_code n d ps at (BindAtom a t) le fit h l k = t_atom n d ps a (omega arith) fit.0 h (t_set (omega arith) (t_code (suc n) (suc d) (At (InLocal d) ∷ ps) at t (omega arith) fit.1 (omega arith, places_up P far d (suc d) (omega arith) ps h) l k))
+    t_code n d ps at (Tail x) le fit h l k = t_op n d ps at x le fit h l k
+    t_code n d ps at (Bind x t) le fit h l k =
         t_choice (unmade P ps x t)
         (λ q e. let z = unmade_some (is_read (block_reads 0 t)) (known P ps x) e in t_code (suc n) d (q ∷ ps) at t (omega (arith, top_less d t)) fit.1 (known_fits P far most form n d ps x fit.0 h z.1, h) l k)
         (t_bind n d ps x {g = op P ps d Inside x} (omega arith) fit.0 h (λ r k'. t_op n d ps Inside x (omega arith) fit.0 h tt k') (t_code (suc n) (suc d) (At (InLocal d) ∷ ps) at t (omega arith) fit.1 (omega arith, places_up P far d (suc d) (omega arith) ps h) l k))
 
     t_alternatives : (n d : ℕ) (ps : List Place) (c : ℕ) (bs : BranchBlocks) → max (suc d) (top_branches (suc d) bs) ≤ size → BranchesFit P.functions (length P.constants) most n bs → All (PlaceFits P far d) ps → AllPut (alternatives P ps d c bs)
-    t_alternatives n d ps c BNil le fit h = tt
-    t_alternatives n d ps c (BCons j t bs) le fit h = (
+    t_alternatives n d ps c NoBranch le fit h = tt
+    t_alternatives n d ps c (Branch j t bs) le fit h = (
       λ at labels ts us rest l k. t_move (moves j t) d (omega arith) (t_code (j + n) (suc d) (branch_places (moves j t) d j ps) at t (omega arith) fit.1
           (branch_fit P far (moves j t) (suc d) d j ps (omega arith) (omega (arith, enough, fit.0)) (places_up P far d (suc d) (omega arith) ps h)) l k),
       t_alternatives n d ps (suc c) bs (omega arith) fit.2 h,

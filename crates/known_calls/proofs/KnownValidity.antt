@@ -15,7 +15,7 @@ use Rattle.wasm_core.specs.ModuleTyping.{Typed, OperandTypes, Operands, Of, matc
 use Rattle.wasm_core.proofs.Small.{no}
 use Rattle.wasm_core.proofs.TypedRules.{t_plain, t_one_arm, t_body}
 use Rattle.anf_convert.specs.declared.program.Atom.TheVariants.{Var as AVar}
-use Rattle.closure_lift.specs.Lifted.{OApp, Block, Program, Fn}
+use Rattle.closure_lift.specs.Lifted.{AppOp, Block, Program, Fn}
 use Rattle.closure_lift.specs.LiftedForm.{LiftedBlockFits, Formed}
 use Rattle.wasm_emit.specs.EmittedCode.{Load, ConstWord, IfOnly}
 use Rattle.wasm_emit.specs.EmittedLocals.{top}
@@ -229,7 +229,7 @@ known_valid P pages m pos small form =
 shaped_applied : (P : Program) (n : ℕ) → Shaped (applied P n)
 shaped_applied P zero = shaped_code P [] 0 Inside P.main
 shaped_applied P (suc n) =
-    shaped_applied P n then (one (LocalSet 0) refl tt then (one (GlobalGet 3) refl tt then (one (Load (4 * n)) refl tt then (one (LocalSet 1) refl tt then shaped_op P (At (InLocal 1) ∷ At (InLocal 0) ∷ []) 2 Inside (OApp (AVar 1) (AVar 0))))))
+    shaped_applied P n then (one (LocalSet 0) refl tt then (one (GlobalGet 3) refl tt then (one (Load (4 * n)) refl tt then (one (LocalSet 1) refl tt then shaped_op P (At (InLocal 1) ∷ At (InLocal 0) ∷ []) 2 Inside (AppOp (AVar 1) (AVar 0))))))
 
 module _ (P : Program) (most : ℕ) (form : Formed P most) (k pages : ℕ) where
   abbrev C : Parts
@@ -240,7 +240,7 @@ module _ (P : Program) (most : ℕ) (form : Formed P most) (k pages : ℕ) where
   t_applied size ls rs all two enough (suc n) {ts = ts} k' =
       t_applied size ls rs all two enough n (t_set P most form (call_function P k) call_globals call_exports pages 16384 (omega arith) size ls rs all (omega arith) (t_plain ts refl (t_plain ts refl
       (t_set P most form (call_function P k) call_globals call_exports pages 16384 (omega arith) size ls rs all (omega arith)
-      (t_op P most form (call_function P k) call_globals call_exports pages 16384 (omega arith) size ls rs all 2 2 (At (InLocal 1) ∷ At (InLocal 0) ∷ []) Inside (OApp (AVar 1) (AVar 0)) (omega arith) (omega arith, omega arith) (omega arith, (omega arith, tt)) tt k')))))
+      (t_op P most form (call_function P k) call_globals call_exports pages 16384 (omega arith) size ls rs all 2 2 (At (InLocal 1) ∷ At (InLocal 0) ∷ []) Inside (AppOp (AVar 1) (AVar 0)) (omega arith) (omega arith, omega arith) (omega arith, (omega arith, tt)) tt k')))))
 
   pub call_typed : TypedFunc C 0 (call_function P k)
   call_typed =

@@ -6,7 +6,7 @@ use Rattle.wasm_core.specs.declared.instrs.Instr.TheVariants.{Unreachable, Else,
 use Rattle.wasm_core.specs.declared.instrs.I32Op.TheVariants as op32
 use Rattle.wasm_core.specs.MachineStep.{Plain, bracket, past_end, to_else, after_end, else_arm}
 use Rattle.anf_convert.specs.declared.program.Atom.{Atom}
-use Rattle.closure_lift.specs.Lifted.{Op, OConst, OApp, OCon, OClos, OCase, Block, RetAtom, LetAtom, Ret, Let, BranchBlocks, BNil, BCons, Program}
+use Rattle.closure_lift.specs.Lifted.{Op, ConstOp, AppOp, ConOp, ClosOp, CaseOp, Block, TailAtom, BindAtom, Tail, Bind, BranchBlocks, NoBranch, Branch, Program}
 use Rattle.wasm_emit.specs.EmittedCode.{Load, StoreWord, ConstWord, IfWord, CallClosure, constant_index, ensure_room}
 use Rattle.known_calls.specs.KnownPlaces.{Word, InLocal, InField, IsConst, Place, At, word_of, known_function}
 use Rattle.known_calls.specs.KnownTests.{Kind, Bare, Fielded, Alternative, kept, is_some, first_number, equal_test, below_test, bare_test, arm, none, chain, are_many, most_rounds, search, tests}
@@ -91,11 +91,11 @@ shaped_block : (env : List Place) (d header : ℕ) (as' : List Atom) → Shaped 
 shaped_block env d header as' = shaped_new_block env d header as' then one (LocalGet d) refl tt
 
 shaped_bind : (env : List Place) (d : ℕ) (x : Op) {g : List Instr → List Instr} → Shaped g → Shaped (into_local env d x g)
-shaped_bind env d (OCon c as') y = shaped_new_block env d _ as'
-shaped_bind env d (OClos h as') y = shaped_new_block env d _ as'
-shaped_bind env d (OConst x) y = y then one (LocalSet d) refl tt
-shaped_bind env d (OApp f a) y = y then one (LocalSet d) refl tt
-shaped_bind env d (OCase a bs) y = y then one (LocalSet d) refl tt
+shaped_bind env d (ConOp c as') y = shaped_new_block env d _ as'
+shaped_bind env d (ClosOp h as') y = shaped_new_block env d _ as'
+shaped_bind env d (ConstOp x) y = y then one (LocalSet d) refl tt
+shaped_bind env d (AppOp f a) y = y then one (LocalSet d) refl tt
+shaped_bind env d (CaseOp a bs) y = y then one (LocalSet d) refl tt
 
 shaped_params : (n : ℕ) → Shaped (into_params n)
 shaped_params zero = one (LocalSet 0) refl tt
@@ -195,22 +195,22 @@ module _ (P : Program) where
 
   mutual
     pub shaped_op : (env : List Place) (d : ℕ) (at : Position) (x : Op) → Shaped (op P env d at x)
-    shaped_op env d at (OConst x) = shaped_call_of at (constant_index P x)
-    shaped_op env d at (OApp f a) = shaped_application env at f a (known_function env f)
-    shaped_op env d at (OCon c as') = shaped_block env d _ as'
-    shaped_op env d at (OClos g as') = shaped_block env d _ as'
-    shaped_op env d at (OCase a bs) = shaped_atom env a then (one (LocalSet d) refl tt then shaped_tests d (alternatives P env d 0 bs) (shaped_alternatives env d 0 bs) at)
+    shaped_op env d at (ConstOp x) = shaped_call_of at (constant_index P x)
+    shaped_op env d at (AppOp f a) = shaped_application env at f a (known_function env f)
+    shaped_op env d at (ConOp c as') = shaped_block env d _ as'
+    shaped_op env d at (ClosOp g as') = shaped_block env d _ as'
+    shaped_op env d at (CaseOp a bs) = shaped_atom env a then (one (LocalSet d) refl tt then shaped_tests d (alternatives P env d 0 bs) (shaped_alternatives env d 0 bs) at)
 
     pub shaped_code : (env : List Place) (d : ℕ) (at : Position) (t : Block) → Shaped (code P env d at t)
-    shaped_code env d at (RetAtom a) = shaped_atom env a
-    shaped_code env d at (LetAtom a t) = shaped_atom env a then (one (LocalSet d) refl tt then shaped_code (At (InLocal d) ∷ env) (suc d) at t)
-    shaped_code env d at (Ret x) = shaped_op env d at x
-    shaped_code env d at (Let x t) =
+    shaped_code env d at (TailAtom a) = shaped_atom env a
+    shaped_code env d at (BindAtom a t) = shaped_atom env a then (one (LocalSet d) refl tt then shaped_code (At (InLocal d) ∷ env) (suc d) at t)
+    shaped_code env d at (Tail x) = shaped_op env d at x
+    shaped_code env d at (Bind x t) =
         shaped_choice (unmade P env x t) {g = λ q. code P (q ∷ env) d at t} (λ q. shaped_code (q ∷ env) d at t) (shaped_bind env d x (shaped_op env d Inside x) then shaped_code (At (InLocal d) ∷ env) (suc d) at t)
 
     pub shaped_alternatives : (env : List Place) (d c : ℕ) (bs : BranchBlocks) → AllShaped (alternatives P env d c bs)
-    shaped_alternatives env d c BNil = tt
-    shaped_alternatives env d c (BCons n t bs) = (λ at. shaped_move (moves n t) d then shaped_code (branch_places (moves n t) d n env) (suc d) at t, shaped_alternatives env d (suc c) bs)
+    shaped_alternatives env d c NoBranch = tt
+    shaped_alternatives env d c (Branch n t bs) = (λ at. shaped_move (moves n t) d then shaped_code (branch_places (moves n t) d n env) (suc d) at t, shaped_alternatives env d (suc c) bs)
 
   pub shaped_branch : (env : List Place) (d n : ℕ) (at : Position) (t : Block) → Shaped (branch P env d n at t)
   shaped_branch env d n at t = shaped_move (moves n t) d then shaped_code (branch_places (moves n t) d n env) (suc d) at t

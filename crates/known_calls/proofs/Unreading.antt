@@ -1,7 +1,7 @@
 -- A closure that is made nowhere is read as a word nowhere in the parts of a block either.
 use Rattle.std.proofs.Common.{◌≡◌, ℕ, zero, suc, ◌+◌, List, ◌∷◌, Option, Some, None, Bool, true, false, refl, ◌∙◌, ap, arith}
 use Rattle.std.specs.Prelude.{slice_get, if◌then◌else◌}
-use Rattle.closure_lift.specs.Lifted.{Op, OCase, Block, LetAtom, Let, BranchBlocks, BranchAt, branch_here, branch_after}
+use Rattle.closure_lift.specs.Lifted.{Op, CaseOp, Block, BindAtom, Bind, BranchBlocks, BranchAt, branch_here, branch_after}
 use Rattle.anf_convert.specs.declared.program.Atom.{Atom}
 use Rattle.known_calls.specs.KnownPlaces.{Word, Place, At, Known, Times, Never, Once, More, ◌plus◌, is_read, fields_of, names, op_reads, block_reads, branches_read}
 use Rattle.known_calls.proofs.KnownHolds.{Unread, OpUnread}
@@ -24,12 +24,12 @@ unmade_some true o e = cc
 unmade_some false o e = (refl, e)
 
 -- behind a binding that needs no code
-pub unread_known : (ps : List Place) (p : Op) (t : Block) (g : ℕ) (ws : List Word) → Unread ps (Let p t) → block_reads 0 t ≡ Never → Unread (Known g ws ∷ ps) t
+pub unread_known : (ps : List Place) (p : Op) (t : Block) (g : ℕ) (ws : List Word) → Unread ps (Bind p t) → block_reads 0 t ≡ Never → Unread (Known g ws ∷ ps) t
 unread_known ps p t g ws un none zero h vs at = none
 unread_known ps p t g ws un none (suc i) h vs at = (neither (op_reads i p) (block_reads (suc i) t) (un i h vs at)).1
 
 -- behind one that has a word
-pub unread_at : (ps : List Place) (p : Op) (t : Block) (w : Word) → Unread ps (Let p t) → Unread (At w ∷ ps) t
+pub unread_at : (ps : List Place) (p : Op) (t : Block) (w : Word) → Unread ps (Bind p t) → Unread (At w ∷ ps) t
 unread_at ps p t w un zero h vs at = cc
 unread_at ps p t w un (suc i) h vs at = (neither (op_reads i p) (block_reads (suc i) t) (un i h vs at)).1
 
@@ -39,11 +39,11 @@ unread_moved x y ps t un zero h vs at = cc
 unread_moved x y ps t un (suc i) h vs at = un (suc i) h vs at
 
 -- behind a named atom
-pub unread_let_atom : (ps : List Place) (a : Atom) (t : Block) (w : Word) → Unread ps (LetAtom a t) → Unread (At w ∷ ps) t
+pub unread_let_atom : (ps : List Place) (a : Atom) (t : Block) (w : Word) → Unread ps (BindAtom a t) → Unread (At w ∷ ps) t
 unread_let_atom ps a t w un zero h vs at = cc
 unread_let_atom ps a t w un (suc i) h vs at = (neither (names i a) (block_reads (suc i) t) (un i h vs at)).1
 
-pub unread_op : (ps : List Place) (p : Op) (t : Block) → Unread ps (Let p t) → OpUnread ps p
+pub unread_op : (ps : List Place) (p : Op) (t : Block) → Unread ps (Bind p t) → OpUnread ps p
 unread_op ps p t un i h vs at = (neither (op_reads i p) (block_reads (suc i) t) (un i h vs at)).0
 
 -- a known place behind the fields of a block is one outside them
@@ -62,7 +62,7 @@ branch_unread i e (branch_here {n = n} {b = t} {rest = bs}) = (neither (block_re
 branch_unread i e (branch_after {m = m} {d = t} {rest = bs} at) = branch_unread i (neither (block_reads (m + i) t) (branches_read i bs) e).1 at
 
 -- in a branch, whose variables are fields
-pub unread_branch : (ps : List Place) (a : Atom) {bs : BranchBlocks} {c n : ℕ} {t : Block} (x : ℕ) → OpUnread ps (OCase a bs) → BranchAt bs c n t → Unread (fields_of x n ps) t
+pub unread_branch : (ps : List Place) (a : Atom) {bs : BranchBlocks} {c n : ℕ} {t : Block} (x : ℕ) → OpUnread ps (CaseOp a bs) → BranchAt bs c n t → Unread (fields_of x n ps) t
 unread_branch ps a {bs} {n = n} {t = t} x un at j h vs here =
     let r = outer x n ps j h vs here in
     let some = un r.i h vs r.at in

@@ -3,7 +3,7 @@
 use Rattle.std.specs.Prelude.{ℕ, zero, suc, ◌+◌, ◌*◌, Bool, true, false, ◌&&◌, if◌then◌else◌, nat_eq, nat_le, List, [], ◌∷◌, length, Option, Some, None, slice_get}
 use Rattle.std.specs.Option.{option_and_then}
 use Rattle.anf_convert.specs.declared.program.Atom.{Atom}
-use Rattle.closure_lift.specs.Lifted.{Op, OConst, OApp, OCon, OClos, OCase, Block, RetAtom, LetAtom, Ret, Let, BranchBlocks, BNil, BCons, Fn, Program}
+use Rattle.closure_lift.specs.Lifted.{Op, ConstOp, AppOp, ConOp, ClosOp, CaseOp, Block, TailAtom, BindAtom, Tail, Bind, BranchBlocks, NoBranch, Branch, Fn, Program}
 use Rattle.wasm_core.specs.declared.instrs.I32Op.TheVariants as op32
 use Rattle.wasm_core.specs.declared.instrs.Instr.{Instr}
 use Rattle.wasm_core.specs.declared.instrs.Instr.TheVariants.{Unreachable, Br, Call, ReturnCall, ReturnCallIndirect, LocalGet, LocalSet, LocalTee, GlobalGet, GlobalSet, I32 as Operation}
@@ -30,14 +30,14 @@ known_closure g (Some ws) = if nat_le (length ws) most_words then Some (Known g 
 
 -- what a block is that makes a closure and does nothing else
 abbrev pub closure_alone : List Place → Block → Option Place
-closure_alone env (Ret (OClos g as')) = known_closure g (words_of env as')
-closure_alone env (Ret (OConst x)) = None
-closure_alone env (Ret (OApp f a)) = None
-closure_alone env (Ret (OCon c as')) = None
-closure_alone env (Ret (OCase a bs)) = None
-closure_alone env (RetAtom a) = None
-closure_alone env (LetAtom a t) = None
-closure_alone env (Let p t) = None
+closure_alone env (Tail (ClosOp g as')) = known_closure g (words_of env as')
+closure_alone env (Tail (ConstOp x)) = None
+closure_alone env (Tail (AppOp f a)) = None
+closure_alone env (Tail (ConOp c as')) = None
+closure_alone env (Tail (CaseOp a bs)) = None
+closure_alone env (TailAtom a) = None
+closure_alone env (BindAtom a t) = None
+closure_alone env (Bind p t) = None
 
 -- a known closure, applied, whose function makes a closure and does nothing else
 abbrev pub partial : Program → ℕ × List Word → Option Word → Option Place
@@ -45,11 +45,11 @@ partial P k w = option_and_then (λ a. option_and_then (λ fn. closure_alone (At
 
 -- the closure that an operation is known to give: that of a constant that is a closure, a partial application, or the closure that it would make
 abbrev pub known : Program → List Place → Op → Option Place
-known P env (OConst x) = option_and_then (closure_alone []) (slice_get P.constants x)
-known P env (OApp f a) = option_and_then (λ k. partial P k (word_of env a)) (known_function env f)
-known P env (OCon c as') = None
-known P env (OClos g as') = known_closure g (words_of env as')
-known P env (OCase a bs) = None
+known P env (ConstOp x) = option_and_then (closure_alone []) (slice_get P.constants x)
+known P env (AppOp f a) = option_and_then (λ k. partial P k (word_of env a)) (known_function env f)
+known P env (ConOp c as') = None
+known P env (ClosOp g as') = known_closure g (words_of env as')
+known P env (CaseOp a bs) = None
 
 -- a binding whose closure is known needs no code where the block behind it reads it as a word nowhere
 abbrev pub unmade : Program → List Place → Op → Block → Option Place
@@ -148,31 +148,31 @@ choose (Some q) known_code made_code = known_code q
 
 -- the word of an operation comes into local d: that of a new block is there, another one comes from the operands
 abbrev pub into_local : List Place → ℕ → Op → (List Instr → List Instr) → List Instr → List Instr
-into_local env d (OCon c as') made rest = new_block env d (length as' * 65536 + c) as' rest
-into_local env d (OClos g as') made rest = new_block env d (suc g) as' rest
-into_local env d (OConst x) made rest = made (LocalSet d ∷ rest)
-into_local env d (OApp f a) made rest = made (LocalSet d ∷ rest)
-into_local env d (OCase a bs) made rest = made (LocalSet d ∷ rest)
+into_local env d (ConOp c as') made rest = new_block env d (length as' * 65536 + c) as' rest
+into_local env d (ClosOp g as') made rest = new_block env d (suc g) as' rest
+into_local env d (ConstOp x) made rest = made (LocalSet d ∷ rest)
+into_local env d (AppOp f a) made rest = made (LocalSet d ∷ rest)
+into_local env d (CaseOp a bs) made rest = made (LocalSet d ∷ rest)
 
 module _ (P : Program) where
   abbrev mutual
     pub op : List Place → ℕ → Position → Op → List Instr → List Instr
-    op env d at (OConst x) rest = call_of at (constant_index P x) ∷ rest
-    op env d at (OApp f a) rest = application P env at f a (known_function env f) rest
-    op env d at (OCon c as') rest = block env d (length as' * 65536 + c) as' rest
-    op env d at (OClos g as') rest = block env d (suc g) as' rest
-    op env d at (OCase a bs) rest = atom env a (LocalSet d ∷ tests d (alternatives env d 0 bs) at rest)
+    op env d at (ConstOp x) rest = call_of at (constant_index P x) ∷ rest
+    op env d at (AppOp f a) rest = application P env at f a (known_function env f) rest
+    op env d at (ConOp c as') rest = block env d (length as' * 65536 + c) as' rest
+    op env d at (ClosOp g as') rest = block env d (suc g) as' rest
+    op env d at (CaseOp a bs) rest = atom env a (LocalSet d ∷ tests d (alternatives env d 0 bs) at rest)
 
     pub code : List Place → ℕ → Position → Block → List Instr → List Instr
-    code env d at (RetAtom a) rest = atom env a rest
-    code env d at (LetAtom a t) rest = atom env a (LocalSet d ∷ code (At (InLocal d) ∷ env) (suc d) at t rest)
-    code env d at (Ret p) rest = op env d at p rest
-    code env d at (Let p t) rest = choose (unmade P env p t) (λ q. code (q ∷ env) d at t rest) (into_local env d p (op env d Inside p) (code (At (InLocal d) ∷ env) (suc d) at t rest))
+    code env d at (TailAtom a) rest = atom env a rest
+    code env d at (BindAtom a t) rest = atom env a (LocalSet d ∷ code (At (InLocal d) ∷ env) (suc d) at t rest)
+    code env d at (Tail p) rest = op env d at p rest
+    code env d at (Bind p t) rest = choose (unmade P env p t) (λ q. code (q ∷ env) d at t rest) (into_local env d p (op env d Inside p) (code (At (InLocal d) ∷ env) (suc d) at t rest))
 
     -- the branches of a match on the word in local d, from constructor c on
     pub alternatives : List Place → ℕ → ℕ → BranchBlocks → List Alternative
-    alternatives env d c BNil = []
-    alternatives env d c (BCons n t bs) = record { number = c; binders = n; body = t; code = λ at rest. move_field (moves n t) d (code (branch_places (moves n t) d n env) (suc d) at t rest) } ∷ alternatives env d (suc c) bs
+    alternatives env d c NoBranch = []
+    alternatives env d c (Branch n t bs) = record { number = c; binders = n; body = t; code = λ at rest. move_field (moves n t) d (code (branch_places (moves n t) d n env) (suc d) at t rest) } ∷ alternatives env d (suc c) bs
 
   -- a branch of n variables, of a match on the word in local d
   abbrev pub branch : List Place → ℕ → ℕ → Position → Block → List Instr → List Instr

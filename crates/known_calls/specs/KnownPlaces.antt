@@ -3,7 +3,7 @@ use Rattle.std.specs.Prelude.{ℕ, zero, suc, ◌+◌, ◌*◌, Bool, true, fals
 use Rattle.std.specs.Option.{option_map, option_and_then}
 use Rattle.anf_convert.specs.declared.program.Atom.{Atom}
 use Rattle.anf_convert.specs.declared.program.Atom.TheVariants.{Var as AVar, Box as ABox, Empty as AEmpty}
-use Rattle.closure_lift.specs.Lifted.{Op, OConst, OApp, OCon, OClos, OCase, Block, RetAtom, LetAtom, Ret, Let, BranchBlocks, BNil, BCons}
+use Rattle.closure_lift.specs.Lifted.{Op, ConstOp, AppOp, ConOp, ClosOp, CaseOp, Block, TailAtom, BindAtom, Tail, Bind, BranchBlocks, NoBranch, Branch}
 -- where a word is: in a local, or in a field of the block whose address is in a local; or which word it is
 pub use Rattle.known_calls.specs.declared.words.Word.{Word}
 pub use Rattle.known_calls.specs.declared.words.Word.TheVariants.{Local as InLocal, Field as InField, Const as IsConst}
@@ -78,18 +78,18 @@ some_names i (a ∷ as') = names i a plus some_names i as'
 -- how often variable i is named otherwise than as the function of an application
 abbrev mutual
   pub op_reads : ℕ → Op → Times
-  op_reads i (OConst x) = Never
-  op_reads i (OApp f a) = names i a
-  op_reads i (OCon c as') = some_names i as'
-  op_reads i (OClos g as') = some_names i as'
-  op_reads i (OCase a bs) = names i a plus branches_read i bs
+  op_reads i (ConstOp x) = Never
+  op_reads i (AppOp f a) = names i a
+  op_reads i (ConOp c as') = some_names i as'
+  op_reads i (ClosOp g as') = some_names i as'
+  op_reads i (CaseOp a bs) = names i a plus branches_read i bs
 
   pub block_reads : ℕ → Block → Times
-  block_reads i (RetAtom a) = names i a
-  block_reads i (LetAtom a t) = names i a plus block_reads (suc i) t
-  block_reads i (Ret p) = op_reads i p
-  block_reads i (Let p t) = op_reads i p plus block_reads (suc i) t
+  block_reads i (TailAtom a) = names i a
+  block_reads i (BindAtom a t) = names i a plus block_reads (suc i) t
+  block_reads i (Tail p) = op_reads i p
+  block_reads i (Bind p t) = op_reads i p plus block_reads (suc i) t
 
   pub branches_read : ℕ → BranchBlocks → Times
-  branches_read i BNil = Never
-  branches_read i (BCons n t bs) = block_reads (n + i) t plus branches_read i bs
+  branches_read i NoBranch = Never
+  branches_read i (Branch n t bs) = block_reads (n + i) t plus branches_read i bs

@@ -2,7 +2,7 @@
 use Rattle.std.specs.Prelude.{◌≡◌, ◌≤◌, ◌+◌, ◌*◌, ℕ, zero, suc, Bool, true, false, ◌&&◌, ◌||◌, if◌then◌else◌, nat_eq, List, [], ◌∷◌, ◌++◌, Option, Some, None}
 use Rattle.anf_convert.specs.declared.program.Atom.{Atom}
 use Rattle.anf_convert.specs.declared.program.Atom.TheVariants.{Var as AVar}
-use Rattle.closure_lift.specs.Lifted.{Block, BranchBlocks, BNil, BCons, Program, Bound, AtomBound, OpBound}
+use Rattle.closure_lift.specs.Lifted.{Block, BranchBlocks, NoBranch, Branch, Program, Bound, AtomIs, OpIs}
 use Rattle.closure_lift.specs.LiftedProgram.{renumber, renumber_branches, place_in, lifted_of}
 use Rattle.closure_lift.specs.declared.program.Lifted.{Lifted}
 use Rattle.closure_lift.specs.declared.program.LiftedBranch.{LiftedBranch}
@@ -22,12 +22,12 @@ under_position n (InTail g depth) = InTail g (depth + n)
 
 -- what a block binds, or ends in
 abbrev pub bound_code : Program → List Place → ℕ → Position → Bound → List Instr → List Instr
-bound_code P env d at (AtomBound a) rest = atom env a rest
-bound_code P env d at (OpBound x) rest = op P env d at x rest
+bound_code P env d at (AtomIs a) rest = atom env a rest
+bound_code P env d at (OpIs x) rest = op P env d at x rest
 
 abbrev pub bound_known : Program → List Place → Bound → Option Place
-bound_known P env (AtomBound a) = None
-bound_known P env (OpBound x) = known P env x
+bound_known P env (AtomIs a) = None
+bound_known P env (OpIs x) = known P env x
 
 -- a binding of this mark: its closure, where it is made nowhere
 abbrev pub bound_unmade : Program → List Place → Bool → Bound → Option Place
@@ -43,8 +43,8 @@ local_behind d None = suc d
 local_behind d (Some q) = d
 
 abbrev pub made_code : Program → List Place → ℕ → Bound → List Instr → List Instr
-made_code P env d (AtomBound a) rest = atom env a (LocalSet d ∷ rest)
-made_code P env d (OpBound x) rest = into_local env d x (op P env d Inside x) rest
+made_code P env d (AtomIs a) rest = atom env a (LocalSet d ∷ rest)
+made_code P env d (OpIs x) rest = into_local env d x (op P env d Inside x) rest
 
 abbrev pub bind_code : Program → List Place → ℕ → Bound → Option Place → List Instr → List Instr
 bind_code P env d x None rest = made_code P env d x rest
@@ -102,13 +102,13 @@ counted true n = suc n
 counted false n = n
 
 abbrev pub count_of : Kind → BranchBlocks → ℕ
-count_of k BNil = 0
-count_of k (BCons n t bs) = counted (is_of k n) (count_of k bs)
+count_of k NoBranch = 0
+count_of k (Branch n t bs) = counted (is_of k n) (count_of k bs)
 
 -- whether the first is
 abbrev pub begins_with : Kind → BranchBlocks → Bool
-begins_with k BNil = false
-begins_with k (BCons n t bs) = is_of k n
+begins_with k NoBranch = false
+begins_with k (Branch n t bs) = is_of k n
 
 -- whether a branch with so many binders, before these, is the last one of a kind
 abbrev pub is_last_of : Kind → ℕ → BranchBlocks → Bool

@@ -7,7 +7,8 @@ use Rattle.anf_convert.specs.declared.program.Atom.{Atom}
 use Rattle.anf_convert.specs.Anf.{AnfOp, ConstOp, AppOp, ConOp, LamOp, FixOp, CaseOp, AnfBlock, TailAtom, Tail, BindAtom, Bind, AnfBranches, NoBranch, Branch, AnfDefs, NoDef, LamDef, BoxDef, AnfProgram}
 use Rattle.closure_lift.specs.CapturedLimit.{ProgramCaptures}
 use Rattle.closure_lift.specs.Lift.{lift}
-use Rattle.closure_lift.specs.Lifted.{Op, OConst, OApp, OCon, OClos, OCase, Block, RetAtom, LetAtom, Ret, Let, BranchBlocks, BNil, BCons, Fn, Program}
+use Rattle.closure_lift.specs.Lifted.{Op, ClosOp, Block, BranchBlocks, Fn, Program}
+use Rattle.closure_lift.specs.Lifted as lifted
 use Rattle.closure_lift.specs.LiftedForm.{Formed, Limits as IsWithin}
 use Rattle.wasm_core.specs.ShortestBytes.{module_bytes}
 use Rattle.wasm_emit.specs.EmittedLocals.{top}
@@ -17,21 +18,21 @@ use Rattle.known_calls.specs.KnownModule.{module_of}
 -- bytes that are enough for each operation, block and match: those of an application are enough for seven captured words, the argument, and a branch or a call
 abbrev mutual
   pub op_weight : Op → ℕ
-  op_weight (OConst x) = 4
-  op_weight (OApp f a) = 102
-  op_weight (OCon c as') = 45 + 16 * length as'
-  op_weight (OClos g as') = 45 + 16 * length as'
-  op_weight (OCase a bs) = 13 + branches_weight bs
+  op_weight (lifted.ConstOp x) = 4
+  op_weight (lifted.AppOp f a) = 102
+  op_weight (lifted.ConOp c as') = 45 + 16 * length as'
+  op_weight (ClosOp g as') = 45 + 16 * length as'
+  op_weight (lifted.CaseOp a bs) = 13 + branches_weight bs
 
   pub weight : Block → ℕ
-  weight (RetAtom a) = 8
-  weight (LetAtom a t) = 12 + weight t
-  weight (Ret x) = op_weight x
-  weight (Let x t) = 4 + op_weight x + weight t
+  weight (lifted.TailAtom a) = 8
+  weight (lifted.BindAtom a t) = 12 + weight t
+  weight (lifted.Tail x) = op_weight x
+  weight (lifted.Bind x t) = 4 + op_weight x + weight t
 
   pub branches_weight : BranchBlocks → ℕ
-  branches_weight BNil = 0
-  branches_weight (BCons n t bs) = 31 + weight t + branches_weight bs
+  branches_weight lifted.NoBranch = 0
+  branches_weight (lifted.Branch n t bs) = 31 + weight t + branches_weight bs
 
 -- for each function, with two types, its place in the table, the sizes and locals of its entry and its worker, and the entry's loads
 abbrev pub functions_weight : List Fn → ℕ

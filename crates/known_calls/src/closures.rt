@@ -6,7 +6,7 @@ ghost use Rattle.wasm_emit.specs.ConstantNumbers.{AreNumbered};
 ghost use Rattle.known_calls.specs.KnownPlaces.{At, all_at, word_of as word_in, words_of as words_in};
 ghost use Rattle.known_calls.specs.KnownCode.{closure_alone as alone_in, known as known_in, known_closure as closure_of, partial as partial_of};
 ghost use Rattle.known_calls.specs.KnownPushed.{op_known};
-ghost use Rattle.closure_lift.specs.Lifted.{OApp, OConst};
+ghost use Rattle.closure_lift.specs.Lifted.{AppOp, ConstOp};
 ghost use Rattle.wasm_emit.specs.declared.fault.EmitFault.TheVariants.{Memory};
 
 use crate::places::{Place, place_of};
@@ -139,7 +139,7 @@ fn known_application(
     f: Atom,
     a: Atom,
 ) -> Result<Option<Place>, EmitFault>
-    ensures is { IfOk result (λ q. q ≡ known_in (lifted_of p.now) (reverse places.now) (OApp f a)) }
+    ensures is { IfOk result (λ q. q ≡ known_in (lifted_of p.now) (reverse places.now) (AppOp f a)) }
     ensures only_memory { IfErr result (λ e. e ≡ Memory) }
 {
     let Atom::Var(i) = f else {
@@ -162,7 +162,7 @@ fn known_constant(
     name: Name,
 ) -> Result<Option<Place>, EmitFault>
     requires numbered { AreNumbered numbers.now p.now.constants }
-    ensures is { IfOk result (λ q. q ≡ known_in (lifted_of p.now) [] (OConst (place_in p.now.constants name.0))) }
+    ensures is { IfOk result (λ q. q ≡ known_in (lifted_of p.now) [] (ConstOp (place_in p.now.constants name.0))) }
     ensures only_memory { IfErr result (λ e. e ≡ Memory) }
 {
     let Some(number) = numbers.get(&name.0) else {

@@ -6,6 +6,7 @@ ghost use Rattle.pc_rules.specs.DirectedTyping.{infer, sort_of};
 ghost use Rattle.pc_rules.specs.Entailment.{test_of};
 ghost use Rattle.pc_rules.specs.Follows.{Follows};
 ghost use Rattle.pc_rules.specs.WellCounted.{IsCountedContext, IsCountedEnv};
+ghost use Rattle.pc_rules.specs.DirectedRun.{most_nested};
 ghost use Rattle.known_types.specs.Located.{IsOf};
 
 use crate::site::Site;
@@ -32,7 +33,7 @@ pub trait SiteTyper {
         requires env { IsCountedEnv env.now }
         requires ctx { IsCountedContext env.now ctx.now }
         requires site { IsOf site.now env.now ctx.now }
-        ensures follows { Follows (infer env.now (test_of env.now) (2048 - m.old.nest) ctx.now t.now m.old.account) result m.old m.new }
+        ensures follows { Follows (infer env.now (test_of env.now) (most_nested - m.old.nest) ctx.now t.now m.old.account) result m.old m.new }
         ensures typed { IfOk result (λ ty. Types guarded env.now ctx.now t.now ty) };
 
     /// The sort of a term that is a type.
@@ -48,7 +49,7 @@ pub trait SiteTyper {
         requires env { IsCountedEnv env.now }
         requires ctx { IsCountedContext env.now ctx.now }
         requires site { IsOf site.now env.now ctx.now }
-        ensures follows { Follows (sort_of env.now (infer env.now (test_of env.now) (2048 - m.old.nest)) ctx.now t.now m.old.account) result m.old m.new }
+        ensures follows { Follows (sort_of env.now (infer env.now (test_of env.now) (most_nested - m.old.nest)) ctx.now t.now m.old.account) result m.old m.new }
         ensures typed { IfOk result (λ s. Types guarded env.now ctx.now t.now (SortT s)) };
 }
 

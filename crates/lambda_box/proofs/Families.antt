@@ -56,11 +56,6 @@ family_found (G ∷ Fs) f F (there h) e = go (same_family G.id f) refl (family_f
 
 -- members of lists whose items are mapped
 
-pub of_has_map : {A B : Type 0} (f : A → B) (xs : List A) {y : B} → Has (map f xs) y → (x : A) × Has xs x × (f x ≡ y)
-of_has_map f [] h = elim h [ ]
-of_has_map f (x ∷ xs) here = (x, here, refl)
-of_has_map f (x ∷ xs) (there h) = let r = of_has_map f xs h in (r.0, there r.1, r.2)
-
 item_mapped : {A B : Type 0} (f : A → B) (xs : List A) (i : ℕ) (d : B) (d' : A) → i < length xs → get_or (map f xs) i d ≡ f (get_or xs i d')
 item_mapped f [] i d d' l = absurd (omega arith)
 item_mapped f (x ∷ xs) zero d d' l = refl

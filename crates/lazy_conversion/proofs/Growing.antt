@@ -1,7 +1,7 @@
 -- What a comparison of lists, spines, matches and fixpoints answers, from its parts.
 use Rattle.std.proofs.Common.{◌≡◌, ◌∙◌, ap, refl, ℕ, suc, ◌<◌, ◌≤◌, ◌+◌, ◌==◌, ◌&&◌, min, ◌⊎◌, inl, inr, Result, Ok, Err, Bool, true, false, List, [], ◌∷◌, ◌++◌, length, drop, get_or, Some, None, length-append, map, arith}
 use Rattle.trees.specs.Tree.{terms_of}
-use Rattle.pc_terms.specs.Syntax.{Term, Ind, apply, put_all, Rel, variables, shift, head, args}
+use Rattle.pc_terms.specs.Syntax.{Term, Ind, apply, put_all, Rel, variables, shift, head, args, list_of}
 use Rattle.pc_terms.specs.Lists.{arms_of}
 use Rattle.pc_terms.specs.declared.leaf.FamilyId.{FamilyId}
 use Rattle.pc_terms.specs.declared.term.Branch.{Branch}
@@ -17,7 +17,6 @@ use Rattle.pc_rules.specs.declared.broken.Clash.TheVariants.{Terms as ClashOfTer
 use Rattle.calculus_rules.specs.Environment.{Env, FamilyDecl, with_parameters}
 use Rattle.calculus_rules.specs.Context.{Context, Values}
 use Rattle.calculus_rules.specs.Instances.{entries_at, predicate_entries, branch_entries}
-use Rattle.calculus_rules.specs.Listed.{list_of}
 use Rattle.calculus_rules.specs.Lookups.{family_of}
 use Rattle.calculus_rules.proofs.Listing.{listed}
 use Rattle.calculus_rules.proofs.Telescopes.{entries_at_length}

@@ -2,14 +2,13 @@
 use Rattle.std.proofs.Common.{◌≡◌, ℕ, zero, suc, ◌<◌, ◌⊎◌, inl, inr, List, [], ◌∷◌, ◌++◌, length, get_or, refl, sym, subst, arith}
 use Rattle.trees.specs.Tree.{terms_of}
 use Rattle.trees.specs.Measures.{depth_trees, above_trees, IsBeyond, AreBeyond}
-use Rattle.pc_terms.specs.Syntax.{Term, App, head, args}
+use Rattle.pc_terms.specs.Syntax.{Term, App, head, args, list_of}
 use Rattle.pc_terms.specs.Lists.{arms_of, types_of, bodies_of, AreBeyondDefs}
 use Rattle.pc_terms.specs.View.{tree_of}
 use Rattle.pc_terms.specs.declared.term.Branch.{Branch}
 use Rattle.pc_terms.specs.declared.term.Def.{Def}
 use Rattle.pc_terms.specs.declared.term.Match.{Match}
 use Rattle.pc_terms.specs.declared.term.Node.TheVariants.{Case, Fix}
-use Rattle.calculus_rules.specs.Listed.{list_of}
 use Rattle.lazy_conversion.specs.Parts.{read_part}
 use Rattle.lazy_conversion.specs.Shapes.{product_of}
 use Rattle.lazy_conversion.specs.Stuck.{type_list, body_list, DefsBeyond}

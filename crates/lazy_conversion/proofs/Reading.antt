@@ -1,11 +1,10 @@
 -- Lists of parts as they are read.
 use Rattle.std.proofs.Common.{◌≡◌, ◌∙◌, ◌+◌, ap, refl, ℕ, List, [], ◌∷◌, length, map, arith}
 use Rattle.trees.specs.Substitution.{walk}
-use Rattle.pc_terms.specs.Syntax.{Term}
+use Rattle.pc_terms.specs.Syntax.{Term, list_of}
 use Rattle.pc_terms.specs.Lists.{bodies_of, walk_def}
 use Rattle.pc_terms.specs.declared.term.Def.{Def}
 use Rattle.pc_terms.proofs.Parts.{walk_length}
-use Rattle.calculus_rules.specs.Listed.{list_of}
 use Rattle.reduce_machine.specs.Reads.{stands_under}
 use Rattle.lazy_conversion.specs.Stuck.{defs_of, type_list, body_list}
 use Rattle.lazy_conversion.specs.declared.stuck.Recursive.{Recursive}

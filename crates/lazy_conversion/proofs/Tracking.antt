@@ -20,7 +20,7 @@ use Rattle.pc_rules.specs.DirectedRun.{Run, Done, Act, ticked, done, refused, pa
 use Rattle.pc_rules.specs.DirectedComparison.{entering}
 use Rattle.pc_rules.specs.Follows.{Follows, IsAfter, Answers, Halts}
 use Rattle.pc_rules.proofs.Fair.{leaves_bind}
-use Rattle.pc_rules.proofs.Following.{or_left, or_right, leaves_at, bind_end, bind_deep, follows_done, follows_refused, follows_passing, follows_entered, ticking-more, beyond_is}
+use Rattle.pc_rules.proofs.Following.{or_left, or_right, leaves_at, bind_end, bind_deep, follows_done, follows_refused, follows_passing, follows_entered, ticking-more, beyond_is, first_deep}
 use Rattle.pc_rules.proofs.Meters.{after-refl, after-trans}
 use Rattle.rule_laws.proofs.KeepCounts.{values_extended}
 use Rattle.std.proofs.lemmas.Bool.{or_cases}
@@ -55,10 +55,6 @@ pub passed_none : {A : Type 0} (b : Bool) (d : Run A) (r : Result A Halt) (m0 m1
 passed_none b d r m0 m1 h = record { answer = none_answers b d r m1.account h.answer; after = h.after; leaves = h.leaves }
 
 -- the first part answered, and the rest follows from there
-
-pub first_deep : {A B : Type 0} (d : Run A) (k : A → Account → Run B) → IsTrue d.deep → IsTrue (bind d k).deep
-unfolding bind
-first_deep d k h = or_left d.deep _ h
 
 whole_deep : {A B : Type 0} (b : Bool) (d : Run A) (k : A → Account → Run B) (a : A) (u : Account) → d.end ≡ Done a u → IsTrue ((b || d.deep) || (k a u).deep) → IsTrue (b || (bind d k).deep)
 whole_deep true d k a u e h = refl

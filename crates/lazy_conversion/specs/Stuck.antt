@@ -3,7 +3,7 @@ use Rattle.std.specs.Prelude.{◌⊎◌, List, map, length}
 use Rattle.trees.specs.Tree.{terms_of}
 use Rattle.trees.specs.Substitution.{walk}
 use Rattle.pc_terms.specs.Lists.{arms_of, types_of, bodies_of, walk_branch, walk_def, AreBeyondDefs}
-use Rattle.pc_terms.specs.Syntax.{Term}
+use Rattle.pc_terms.specs.Syntax.{Term, list_of}
 use Rattle.pc_terms.specs.View.{tree_of}
 use Rattle.pc_terms.specs.declared.term.Def.{Def}
 use Rattle.pc_terms.specs.declared.term.Match.{Match}
@@ -11,7 +11,6 @@ use Rattle.pc_terms.specs.declared.term.Node.TheVariants.{Case}
 use Rattle.calculus_rules.specs.declared.declaration.Constructor.{Constructor}
 use Rattle.calculus_rules.specs.Environment.{Env}
 use Rattle.calculus_rules.specs.Context.{Context}
-use Rattle.calculus_rules.specs.Listed.{list_of}
 use Rattle.calculus_rules.specs.Lookups.{family_of}
 use Rattle.pc_rules.specs.DirectedRun.{Act, run_all}
 use Rattle.pc_rules.specs.DirectedComparison.{Comparison, matches_equal, branches_equal, fixpoints_equal}

@@ -7,6 +7,7 @@ ghost use Rattle.calculus_rules.specs.Same.{same};
 ghost use Rattle.pc_rules.specs.Entailment.{test_of};
 ghost use Rattle.pc_rules.specs.Follows.{Follows};
 ghost use Rattle.pc_rules.specs.DirectedComparison.{compare, entered, pair};
+ghost use Rattle.pc_rules.specs.DirectedRun.{most_nested};
 ghost use Rattle.conversion.specs.Comparable.{AreComparable};
 ghost use Rattle.conversion.specs.Modes.{is_equal};
 ghost use Rattle.reduce_machine.specs.Reads.{read};
@@ -107,7 +108,7 @@ impl LazyCompare {
         b: &Term,
         m: &mut Meter,
     ) -> Result<(), Halt>
-        requires nest { room + m.old.nest ≡ 2048 }
+        requires nest { room + m.old.nest ≡ most_nested }
         requires comparable { AreComparable env.now (values ctx.now) (a.now ∷ []) (b.now ∷ []) }
         ensures follows { Follows (compare env.now (test_of env.now) room ctx.now (is_equal mode) a.now b.now m.old.account) result m.old m.new }
     {
@@ -142,7 +143,7 @@ impl LazyCompare {
         b: Argument<'_>,
         m: &mut Meter,
     ) -> Result<(), Halt>
-        requires nest { room + m.old.nest ≡ 2048 }
+        requires nest { room + m.old.nest ≡ most_nested }
         requires left { IsSound at.now.env.now (values at.now.ctx.now) a }
         requires right { IsSound at.now.env.now (values at.now.ctx.now) b }
         requires comparable { AreComparable at.now.env.now (values at.now.ctx.now) (argument_term a ∷ []) (argument_term b ∷ []) }
@@ -171,7 +172,7 @@ impl LazyCompare {
         b: Argument<'_>,
         m: &mut Meter,
     ) -> Result<(), Halt>
-        requires nest { room + m.old.nest ≡ 2048 }
+        requires nest { room + m.old.nest ≡ most_nested }
         requires left { IsSound at.now.env.now (values at.now.ctx.now) a }
         requires right { IsSound at.now.env.now (values at.now.ctx.now) b }
         requires comparable { AreComparable at.now.env.now (values at.now.ctx.now) (argument_term a ∷ []) (argument_term b ∷ []) }
@@ -199,7 +200,7 @@ impl LazyCompare {
         y: Seen<'_>,
         m: &mut Meter,
     ) -> Result<(), Halt>
-        requires nest { room + m.old.nest ≡ 2048 }
+        requires nest { room + m.old.nest ≡ most_nested }
         requires left { IsNormal at.now.env.now (values at.now.ctx.now) x }
         requires right { IsNormal at.now.env.now (values at.now.ctx.now) y }
         requires comparable { AreComparable at.now.env.now (values at.now.ctx.now) (seen_term x ∷ []) (seen_term y ∷ []) }
@@ -229,7 +230,7 @@ impl LazyCompare {
         g: Binder<'_>,
         m: &mut Meter,
     ) -> Result<(), Halt>
-        requires nest { room + m.old.nest ≡ 2048 }
+        requires nest { room + m.old.nest ≡ most_nested }
         requires domains { AreComparable at.now.env.now (values at.now.ctx.now) (read_part f.domain ∷ []) (read_part g.domain ∷ []) }
         requires bodies { AreComparable at.now.env.now (under 1 (values at.now.ctx.now)) (read_part f.body ∷ []) (read_part g.body ∷ []) }
         ensures tracks { Tracks (values at.now.ctx.now) (EitherBeyond (product_of f.entry) (product_of g.entry)) (binders_equal (compare at.now.env.now (test_of at.now.env.now) room) (is_equal mode) f.entry g.entry) result m.old m.new }
@@ -253,7 +254,7 @@ impl LazyCompare {
         b: Part<'_>,
         m: &mut Meter,
     ) -> Result<(), Halt>
-        requires nest { room + m.old.nest ≡ 2048 }
+        requires nest { room + m.old.nest ≡ most_nested }
         requires comparable { AreComparable at.now.env.now (values at.now.ctx.now) (read_part a ∷ []) (read_part b ∷ []) }
         ensures tracks { Tracks (values at.now.ctx.now) (EitherBeyond (read_part a.entry) (read_part b.entry)) (λ c. compare at.now.env.now (test_of at.now.env.now) room c (is_equal mode) (read_part a.entry) (read_part b.entry)) result m.old m.new }
     {

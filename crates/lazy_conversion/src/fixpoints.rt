@@ -2,7 +2,7 @@
 ghost use Rattle.std.specs.Prelude.{◌≡◌, ◌+◌};
 ghost use Rattle.calculus_rules.specs.Context.{values};
 ghost use Rattle.pc_rules.specs.Entailment.{test_of};
-ghost use Rattle.pc_rules.specs.DirectedRun.{run_all};
+ghost use Rattle.pc_rules.specs.DirectedRun.{run_all, most_nested};
 ghost use Rattle.pc_rules.specs.DirectedComparison.{compare, each_equal, entering, lifted_types};
 ghost use Rattle.conversion.specs.Comparable.{AreComparable};
 ghost use Rattle.lazy_conversion.specs.Lists.{read_list};
@@ -57,7 +57,7 @@ impl LazyCompare {
         g: Recursive<'_>,
         m: &mut Meter,
     ) -> Result<(), Halt>
-        requires nest { room + m.old.nest ≡ 2048 }
+        requires nest { room + m.old.nest ≡ most_nested }
         requires types { AreComparable at.now.env.now (values at.now.ctx.now) (type_list (defs_of f)) (type_list (defs_of g)) }
         requires bodies { AreComparable at.now.env.now (values at.now.ctx.now) (body_list (defs_of f)) (body_list (defs_of g)) }
         ensures tracks { Tracks (values at.now.ctx.now) (DefsBeyond (defs_of f.entry) (defs_of g.entry)) (recursive_equal (compare at.now.env.now (test_of at.now.env.now) room) (defs_of f.entry) (defs_of g.entry)) result m.old m.new }
@@ -81,7 +81,7 @@ impl LazyCompare {
         g: Recursive<'_>,
         m: &mut Meter,
     ) -> Result<(), Halt>
-        requires nest { room + m.old.nest ≡ 2048 }
+        requires nest { room + m.old.nest ≡ most_nested }
         requires bodies { AreComparable at.now.env.now (values at.now.ctx.now) (body_list (defs_of f)) (body_list (defs_of g)) }
         ensures tracks { Tracks (values at.now.ctx.now) (DefsBeyond (defs_of f.entry) (defs_of g.entry)) (λ c. entering c (lifted_types 0 (type_list (defs_of f.entry))) (λ d. run_all (each_equal (compare at.now.env.now (test_of at.now.env.now) room) d (body_list (defs_of f.entry)) (body_list (defs_of g.entry))))) result m.old m.new }
     {

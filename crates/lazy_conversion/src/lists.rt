@@ -2,7 +2,7 @@
 ghost use Rattle.std.specs.Prelude.{◌≡◌, ◌+◌};
 ghost use Rattle.calculus_rules.specs.Context.{values};
 ghost use Rattle.pc_rules.specs.Entailment.{test_of};
-ghost use Rattle.pc_rules.specs.DirectedRun.{run_all};
+ghost use Rattle.pc_rules.specs.DirectedRun.{run_all, most_nested};
 ghost use Rattle.pc_rules.specs.DirectedComparison.{compare, each_equal};
 ghost use Rattle.conversion.specs.Comparable.{AreComparable};
 ghost use Rattle.lazy_conversion.specs.Lists.{read_list};
@@ -38,7 +38,7 @@ impl LazyCompare {
         us: Parts<'_>,
         m: &mut Meter,
     ) -> Result<(), Halt>
-        requires nest { room + m.old.nest ≡ 2048 }
+        requires nest { room + m.old.nest ≡ most_nested }
         requires comparable { AreComparable at.now.env.now (values at.now.ctx.now) (read_list ts) (read_list us) }
         ensures tracks { Tracks (values at.now.ctx.now) (AnyBeyond (read_list ts.entry) (read_list us.entry)) (λ c. run_all (each_equal (compare at.now.env.now (test_of at.now.env.now) room) c (read_list ts.entry) (read_list us.entry))) result m.old m.new }
     {

@@ -7,6 +7,7 @@ ghost use Rattle.calculus_rules.specs.Environment.{with_parameters};
 ghost use Rattle.calculus_rules.specs.Instances.{predicate_entries};
 ghost use Rattle.pc_rules.specs.Entailment.{test_of};
 ghost use Rattle.pc_rules.specs.DirectedComparison.{compare, entering};
+ghost use Rattle.pc_rules.specs.DirectedRun.{most_nested};
 ghost use Rattle.conversion.specs.Comparable.{AreComparable};
 ghost use Rattle.reduce_machine.specs.Reads.{stands_under};
 ghost use Rattle.lazy_conversion.specs.Lists.{read_list};
@@ -80,7 +81,7 @@ impl LazyCompare {
         y: Stuck<'_>,
         m: &mut Meter,
     ) -> Result<(), Halt>
-        requires nest { room + m.old.nest ≡ 2048 }
+        requires nest { room + m.old.nest ≡ most_nested }
         requires left { IsNormal at.now.env.now (values at.now.ctx.now) x.scrut }
         requires right { IsNormal at.now.env.now (values at.now.ctx.now) y.scrut }
         requires comparable { AreComparable at.now.env.now (values at.now.ctx.now) (match_term x ∷ []) (match_term y ∷ []) }
@@ -118,7 +119,7 @@ impl LazyCompare {
         y: Stuck<'_>,
         m: &mut Meter,
     ) -> Result<(), Halt>
-        requires nest { room + m.old.nest ≡ 2048 }
+        requires nest { room + m.old.nest ≡ most_nested }
         requires comparable { AreComparable at.now.env.now (values at.now.ctx.now) (match_term x ∷ []) (match_term y ∷ []) }
         ensures tracks { (Ps : List Term) → Tracks (values at.now.ctx.now) (EitherBeyond (match_term x.entry) (match_term y.entry)) (λ c. entering c (predicate_entries x.entry.outer.now.family (with_parameters Ps family.now) (match_of x.entry).params) (λ d. compare at.now.env.now (test_of at.now.env.now) room d true (match_of x.entry).ret (match_of y.entry).ret)) result m.old m.new }
     {
@@ -148,7 +149,7 @@ impl LazyCompare {
         y: Stuck<'_>,
         m: &mut Meter,
     ) -> Result<(), Halt>
-        requires nest { room + m.old.nest ≡ 2048 }
+        requires nest { room + m.old.nest ≡ most_nested }
         requires comparable { AreComparable at.now.env.now (values at.now.ctx.now) (match_term x ∷ []) (match_term y ∷ []) }
         ensures tracks { Tracks (values at.now.ctx.now) (EitherBeyond (match_term x.entry) (match_term y.entry)) (arms_equal (compare at.now.env.now (test_of at.now.env.now) room) ctors.now (match_of x.entry) (match_of y.entry)) result m.old m.new }
     {

@@ -4,7 +4,7 @@
 //! plain, the terms are compared as they are; where a variable is bound, the walk goes on in what it is bound to. Two items that were found
 //! to be the same are joined, and are known to be the same from then on, so that each pair of items is walked once, however often it is met.
 ghost use Rattle.std.specs.Prelude.{◌≡◌, ◌<◌, ◌^◌, ◌&&◌, ◌≤◌, IsTrue, ◌↔◌, IfOk, IfErr, length, map};
-ghost use Rattle.trees.specs.Measures.{IsBeyond};
+ghost use Rattle.trees.specs.Measures.{depth_limit, IsBeyond};
 ghost use Rattle.trees.specs.Tree.{terms_of};
 ghost use Rattle.pc_terms.specs.Lists.{arms_of};
 ghost use Rattle.pc_terms.specs.View.{tree_of};
@@ -22,7 +22,9 @@ ghost use Rattle.lazy_conversion.specs.Deep.{AreDeep, AreDeepLists, AreDeepDefs,
 
 use crate::part::Part;
 use crate::places::{Meaning, Place, are_plain, is_variable};
-use pc_terms::term::{Branch, Branches, Def, Defs, MakeFault, Match, Node, Term, Terms};
+use pc_terms::term::{
+    Branch, Branches, DEPTH_LIMIT, Def, Defs, MakeFault, Match, Node, Term, Terms,
+};
 use reduce_machine::bindings::{Bindings, Lazy};
 use reduce_machine::memo::Memo;
 
@@ -81,7 +83,7 @@ fn same_lists(
     q: &Place<'_>,
     at: u32,
 ) -> Result<bool, MakeFault>
-    requires limit { at ≤ 2048 }
+    requires limit { at ≤ depth_limit }
     requires left { IsNear p.now.lifted p.now.env.now.rank }
     requires right { IsNear q.now.lifted q.now.env.now.rank }
     ensures ok { IfOk result (λ r. IsTrue r ↔ (map (seen p.now) a.now ≡ map (seen q.now) b.now)) }
@@ -112,7 +114,7 @@ fn same_branches(
     q: &Place<'_>,
     at: u32,
 ) -> Result<bool, MakeFault>
-    requires limit { at ≤ 2048 }
+    requires limit { at ≤ depth_limit }
     requires left { IsNear p.now.lifted p.now.env.now.rank }
     requires right { IsNear q.now.lifted q.now.env.now.rank }
     ensures ok { IfOk result (λ r. IsTrue r ↔ (map (branch_seen p.now) a.now ≡ map (branch_seen q.now) b.now)) }
@@ -143,7 +145,7 @@ fn same_branch(
     q: &Place<'_>,
     at: u32,
 ) -> Result<bool, MakeFault>
-    requires limit { at ≤ 2048 }
+    requires limit { at ≤ depth_limit }
     requires left { IsNear p.now.lifted p.now.env.now.rank }
     requires right { IsNear q.now.lifted q.now.env.now.rank }
     ensures ok { IfOk result (λ r. IsTrue r ↔ (branch_seen p.now a.now ≡ branch_seen q.now b.now)) }
@@ -159,7 +161,7 @@ fn same_branch(
 #[cycle(sameness)]
 #[tactic(auto, using(std::proofs::lemmas::Grind::common_steps))]
 fn same_defs(a: &Defs, p: &Place<'_>, b: &Defs, q: &Place<'_>, at: u32) -> Result<bool, MakeFault>
-    requires limit { at ≤ 2048 }
+    requires limit { at ≤ depth_limit }
     requires left { IsNear p.now.lifted p.now.env.now.rank }
     requires right { IsNear q.now.lifted q.now.env.now.rank }
     ensures ok { IfOk result (λ r. IsTrue r ↔ (map (def_seen p.now (length a.now)) a.now ≡ map (def_seen q.now (length b.now)) b.now)) }
@@ -192,7 +194,7 @@ fn same_def(
     at: u32,
 ) -> Result<bool, MakeFault>
     requires small { n < 2 ^ 63 }
-    requires limit { at ≤ 2048 }
+    requires limit { at ≤ depth_limit }
     requires left { IsNear p.now.lifted p.now.env.now.rank }
     requires right { IsNear q.now.lifted q.now.env.now.rank }
     ensures ok { IfOk result (λ r. IsTrue r ↔ (def_seen p.now n a.now ≡ def_seen q.now n b.now)) }
@@ -217,7 +219,7 @@ fn same_matches(
     q: &Place<'_>,
     at: u32,
 ) -> Result<bool, MakeFault>
-    requires limit { at ≤ 2048 }
+    requires limit { at ≤ depth_limit }
     requires left { IsNear p.now.lifted p.now.env.now.rank }
     requires right { IsNear q.now.lifted q.now.env.now.rank }
     ensures ok { IfOk result (λ r. IsTrue r ↔ (match_around p.now a.now ≡ match_around q.now b.now)) }
@@ -245,7 +247,7 @@ fn same_whole(
     q: &Place<'_>,
     at: u32,
 ) -> Result<bool, MakeFault>
-    requires limit { at ≤ 2048 }
+    requires limit { at ≤ depth_limit }
     requires left { IsNear p.now.lifted p.now.env.now.rank }
     requires right { IsNear q.now.lifted q.now.env.now.rank }
     ensures ok { IfOk result (λ r. IsTrue r ↔ (match_seen p.now a.now ≡ match_seen q.now b.now)) }
@@ -262,7 +264,7 @@ fn same_whole(
 #[cycle(sameness)]
 #[tactic(auto, using(std::proofs::lemmas::Grind::common_steps))]
 fn same_nodes(x: &Node, p: &Place<'_>, y: &Node, q: &Place<'_>, at: u32) -> Result<bool, MakeFault>
-    requires limit { at ≤ 2048 }
+    requires limit { at ≤ depth_limit }
     requires left { IsNear p.now.lifted p.now.env.now.rank }
     requires right { IsNear q.now.lifted q.now.env.now.rank }
     ensures ok { IfOk result (λ r. IsTrue r ↔ (node_seen p.now x.now ≡ node_seen q.now y.now)) }
@@ -324,7 +326,7 @@ fn same_below(
     at: u32,
 ) -> Result<bool, MakeFault>
     requires small { n < 2 ^ 63 }
-    requires limit { at ≤ 2048 }
+    requires limit { at ≤ depth_limit }
     requires left { IsNear p.now.lifted p.now.env.now.rank }
     requires right { IsNear q.now.lifted q.now.env.now.rank }
     ensures ok { IfOk result (λ r. IsTrue r ↔ (seen_below p.now n a.now ≡ seen_below q.now n b.now)) }
@@ -347,7 +349,7 @@ fn same_items(
     other_lifted: u64,
     at: u32,
 ) -> Result<bool, MakeFault>
-    requires limit { at ≤ 2048 }
+    requires limit { at ≤ depth_limit }
     requires left { IsNear lifted item.now.env.rank }
     requires right { IsNear other_lifted other.now.env.rank }
     requires left_memo { IsMemo memo.now (read item.now) }
@@ -390,7 +392,7 @@ fn same_item(
     q: &Place<'_>,
     at: u32,
 ) -> Result<bool, MakeFault>
-    requires limit { at ≤ 2048 }
+    requires limit { at ≤ depth_limit }
     requires left { IsNear lifted item.now.env.rank }
     requires right { IsNear q.now.lifted q.now.env.now.rank }
     requires memo { IsMemo memo.now (read item.now) }
@@ -418,7 +420,7 @@ fn same_item(
 #[cycle(sameness)]
 #[tactic(auto, using(std::proofs::lemmas::Grind::common_steps))]
 fn same_variable(i: u32, p: &Place<'_>, b: &Term, q: &Place<'_>, at: u32) -> Result<bool, MakeFault>
-    requires limit { at ≤ 2048 }
+    requires limit { at ≤ depth_limit }
     requires left { IsNear p.now.lifted p.now.env.now.rank }
     requires right { IsNear q.now.lifted q.now.env.now.rank }
     ensures ok { IfOk result (λ r. IsTrue r ↔ (lifted_under p.now.lifted p.now.env.now.items p.now.under i ≡ seen q.now b.now)) }
@@ -438,7 +440,7 @@ fn same_variable(i: u32, p: &Place<'_>, b: &Term, q: &Place<'_>, at: u32) -> Res
 #[cycle(sameness)]
 #[tactic(auto, using(std::proofs::lemmas::Grind::common_steps))]
 fn same_at(a: &Term, p: &Place<'_>, b: &Term, q: &Place<'_>, at: u32) -> Result<bool, MakeFault>
-    requires limit { at ≤ 2048 }
+    requires limit { at ≤ depth_limit }
     requires left { IsNear p.now.lifted p.now.env.now.rank }
     requires right { IsNear q.now.lifted q.now.env.now.rank }
     ensures ok { IfOk result (λ r. IsTrue r ↔ (seen p.now a.now ≡ seen q.now b.now)) }
@@ -455,7 +457,7 @@ fn same_at(a: &Term, p: &Place<'_>, b: &Term, q: &Place<'_>, at: u32) -> Result<
     if let Node::Rel(j) = y {
         return same_variable(*j, q, a, p, at);
     }
-    if at == 2048 {
+    if at == DEPTH_LIMIT {
         return Err(MakeFault::TooDeep);
     }
     same_nodes(x, p, y, q, at + 1)

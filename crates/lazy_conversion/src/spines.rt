@@ -5,7 +5,7 @@ ghost use Rattle.pc_terms.specs.declared.term.MakeFault.TheVariants.{TooDeep};
 ghost use Rattle.pc_rules.specs.declared.broken.Clash.TheVariants.{Terms as ClashOfTerms};
 ghost use Rattle.calculus_rules.specs.Context.{values};
 ghost use Rattle.pc_rules.specs.Entailment.{test_of};
-ghost use Rattle.pc_rules.specs.DirectedRun.{run_all};
+ghost use Rattle.pc_rules.specs.DirectedRun.{run_all, most_nested};
 ghost use Rattle.pc_rules.specs.DirectedComparison.{compare, spines_equal, heads_equal, each_equal};
 ghost use Rattle.conversion.specs.Comparable.{AreComparable};
 ghost use Rattle.reduce_machine.specs.Layers.{IsMatchNode};
@@ -51,7 +51,7 @@ impl LazyCompare {
         y: Seen<'_>,
         m: &mut Meter,
     ) -> Result<(), Halt>
-        requires nest { room + m.old.nest ≡ 2048 }
+        requires nest { room + m.old.nest ≡ most_nested }
         requires left { IsNormal at.now.env.now (values at.now.ctx.now) x }
         requires right { IsNormal at.now.env.now (values at.now.ctx.now) y }
         requires comparable { AreComparable at.now.env.now (values at.now.ctx.now) (seen_term x ∷ []) (seen_term y ∷ []) }
@@ -77,7 +77,7 @@ impl LazyCompare {
         y: Seen<'_>,
         m: &mut Meter,
     ) -> Result<(), Halt>
-        requires nest { room + m.old.nest ≡ 2048 }
+        requires nest { room + m.old.nest ≡ most_nested }
         requires left { IsNormal at.now.env.now (values at.now.ctx.now) x }
         requires right { IsNormal at.now.env.now (values at.now.ctx.now) y }
         requires comparable { AreComparable at.now.env.now (values at.now.ctx.now) (seen_term x ∷ []) (seen_term y ∷ []) }
@@ -103,7 +103,7 @@ impl LazyCompare {
         y: Seen<'_>,
         m: &mut Meter,
     ) -> Result<(), Halt>
-        requires nest { room + m.old.nest ≡ 2048 }
+        requires nest { room + m.old.nest ≡ most_nested }
         requires left { IsNormal at.now.env.now (values at.now.ctx.now) x }
         requires right { IsNormal at.now.env.now (values at.now.ctx.now) y }
         requires other { IsMatchNode (head (seen_term x)) → ⊥ }
@@ -130,7 +130,7 @@ impl LazyCompare {
         y: Seen<'_>,
         m: &mut Meter,
     ) -> Result<(), Halt>
-        requires nest { room + m.old.nest ≡ 2048 }
+        requires nest { room + m.old.nest ≡ most_nested }
         requires left { IsNormal at.now.env.now (values at.now.ctx.now) x }
         requires right { IsNormal at.now.env.now (values at.now.ctx.now) y }
         requires comparable { AreComparable at.now.env.now (values at.now.ctx.now) (seen_term x ∷ []) (seen_term y ∷ []) }

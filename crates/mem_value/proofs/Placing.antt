@@ -22,13 +22,13 @@ use Rattle.wasm_core.specs.MachineStep.{State}
 use Rattle.wasm_core.specs.Runs.{store_of}
 use Rattle.wasm_core.specs.MachineRun.{MachineShown}
 use Rattle.wasm_run.specs.Hosting.{put_in, IsAtStart}
-use Rattle.wasm_run.proofs.HostCalls.{puts_length, room_small, held_has}
+use Rattle.wasm_run.proofs.HostCalls.{puts_length, room_small, held_has, store_again}
 use Rattle.wasm_run.proofs.Running.{read_i32}
 use Rattle.data_trees.specs.Preorder.{IsForest, IsTree}
 use Rattle.mem_value.specs.Storing.{Stacked, put_at, put_block, put_node, put_nodes, put_trees, put_last, put_arguments, header, with_word, IsSmallData, HasHeap, HasStored, StackSays, PutSays, StoreSays}
 use Rattle.wasm_core.proofs.MemoryWords.{word_same, more_same}
 use Rattle.mem_value.proofs.Bytes.{puts_other, WordsAt, IsWord32, puts_there}
-use Rattle.mem_value.proofs.Stacks.{none_left, with_again, store_again}
+use Rattle.mem_value.proofs.Stacks.{none_left, with_again}
 
 -- ---- words that stand for trees, one after the other
 

@@ -16,14 +16,11 @@ use Rattle.data_trees.specs.Preorder.{IsForest, IsTree}
 use Rattle.mem_value.specs.Storing.{Stacked, put_block, put_node, put_nodes, put_trees, header, with_word, StackSays, PutSays}
 use Rattle.mem_value.specs.declared.store_fault.StoreFault.{StoreFault}
 use Rattle.mem_value.specs.declared.store_fault.StoreFault.TheVariants.{Exhausted, Failed, Memory}
+use Rattle.wasm_run.proofs.HostCalls.{store_again}
 
 pub with_again : (s : State) (a b : Store) → with_store (with_store s a) b ≡ with_store s b
 with_again (At c) a b = refl
 with_again (Over e st) a b = refl
-
-pub store_again : (s : State) (a : Store) → store_of (with_store s a) ≡ a
-store_again (At c) a = refl
-store_again (Over e st) a = refl
 
 with_same : (s : State) → with_store s (store_of s) ≡ s
 with_same (At c) = refl

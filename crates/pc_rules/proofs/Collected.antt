@@ -3,13 +3,12 @@ use Rattle.std.proofs.Common.{◌≡◌, ◌∙◌, ap, refl, ℕ, zero, suc, �
 use Rattle.std.proofs.lemmas.List.{length-take-le}
 use Rattle.trees.specs.Measures.{IsBeyond}
 use Rattle.trees.proofs.Cutoffs.{lift-shift}
-use Rattle.pc_terms.specs.Syntax.{Term, lift, shift}
+use Rattle.pc_terms.specs.Syntax.{Term, lift, shift, list_of}
 use Rattle.pc_terms.specs.Lists.{types_of, bodies_of}
 use Rattle.pc_terms.specs.declared.term.Def.{Def}
 use Rattle.calculus_rules.specs.declared.entry.Entry.TheVariants.{Assumed}
 use Rattle.calculus_rules.specs.Context.{Context, extend}
 use Rattle.pc_rules.specs.DirectedRun.{is_beyond, any_beyond}
-use Rattle.calculus_rules.specs.Listed.{list_of}
 use Rattle.pc_rules.specs.DirectedComparison.{lifted_types}
 use Rattle.pc_rules.proofs.Following.{or_left, or_right, beyond_is}
 use Rattle.pc_rules.proofs.ListSteps.{take_next}

@@ -8,6 +8,7 @@ use Rattle.calculus_rules.specs.Lookups.{kept_at, body_of}
 use Rattle.pc_rules.specs.DirectedWeakHead.{built, branch_of}
 use Rattle.pc_rules.specs.DirectedEvaluation.{Evaluated, Value, Stuck, Evaluating, on_value, with_value, contracted, contracts, takes_more, unfolding_at, applied, node, evaluate, evaluation}
 use Rattle.pc_rules.proofs.SameWithin.{Agrees, agrees_done, agrees_if, agrees_bind, agrees_ticking}
+use Rattle.pc_rules.proofs.Following.{paid-none}
 
 agrees_make : (n : ℕ) (t : Term) → Agrees n (λ u. make t u) (λ u. make t u)
 agrees_make n t = record { same = λ u l. refl; falls = λ u l. omega arith }
@@ -52,14 +53,10 @@ same_node {n} E go go' h t = agrees_done n (Value t)
 
 -- where no unit is left
 
-paid_none : {A : Type 0} (m : ℕ) (r : Run A) → m ≡ 0 → paid m r ≡ no_unit
-paid_none zero r e = refl
-paid_none (suc m) r e = absurd (omega arith)
-
 none_left : (E : Env) (k : ℕ) (t : Term) (u : Account) → u.left ≡ 0 → evaluate E k t u ≡ no_unit
 unfolding evaluate ticking
 none_left E zero t u e = refl
-none_left E (suc k) t u e = paid_none u.left (node E (evaluate E k) t (ticked u)) e
+none_left E (suc k) t u e = paid-none u.left (node E (evaluate E k) t (ticked u)) e
 
 agrees_empty : {A : Type 0} (f g : Account → Run A) → ((u : Account) → u.left ≡ 0 → f u ≡ no_unit) → ((u : Account) → u.left ≡ 0 → g u ≡ no_unit) →
     Agrees 1 f g
@@ -92,7 +89,7 @@ bounded E n = record {
 
 next_at : (E : Env) (n : ℕ) (t : Term) (u : Account) → u.left ≡ n → evaluate E n t u ≡ ticking u (λ v. node E (evaluation E) t v)
 unfolding evaluate ticking
-next_at E zero t u e = sym (paid_none u.left (node E (evaluation E) t (ticked u)) e)
+next_at E zero t u e = sym (paid-none u.left (node E (evaluation E) t (ticked u)) e)
 next_at E (suc n) t u e = ap (paid u.left) ((same_node E (evaluate E n) (evaluation E) (bounded E n) t).same (ticked u) (omega arith))
 
 -- a node takes a unit, and its parts are evaluated within the units that are left then

@@ -15,7 +15,7 @@ use Rattle.calculus_rules.specs.Instances.{unfolded}
 use Rattle.calculus_rules.specs.Step.{IsConstructor, is_constructor}
 use Rattle.calculus_rules.specs.Evaluation.{IsValue, sort_is, prod_is, lambda_is, ind_is, construct_is, fix_is, TakesMore, family, constructor, fixpoint, Unfolds, unfolds, Evaluates, value, constant, let_in, beta, extend, unfold_fix, enter}
 use Rattle.calculus_rules.specs.Same.{same_names}
-use Rattle.pc_rules.specs.DirectedRun.{Run, Done, done, ticked, ticking, end_then, bind}
+use Rattle.pc_rules.specs.DirectedRun.{Run, Done, done, ticked, ticking, bind}
 use Rattle.calculus_rules.specs.Lookups.{if_some, kept_at, body_of, whole_block, family_of}
 use Rattle.pc_rules.specs.DirectedWeakHead.{arguments_at, built_arguments, built, branch_of, unfold_at}
 use Rattle.pc_rules.specs.DirectedEvaluation.{Evaluated, Value, Evaluating, on_value, with_value, contracted, contracts, is_missing, lacks_arguments, is_below, takes_more, unfolding_at, extended, applied, node, evaluate}
@@ -26,6 +26,7 @@ use Rattle.pc_rules.proofs.SameTrees.{one_family}
 use Rattle.pc_rules.proofs.WeakNext.{same_names_is}
 use Rattle.pc_rules.proofs.EvaluationRuns.{more_none, more_more}
 use Rattle.pc_rules.proofs.Fair.{paid_is}
+use Rattle.pc_rules.proofs.Following.{bind_end}
 
 -- what is declared is found
 
@@ -108,12 +109,8 @@ branch_there E a f c s bs qs xs body h b =
 
 -- how runs go on
 
-bind_goes : {A B : Type 0} (r : Run A) (k : A → Account → Run B) (a : A) (u : Account) → r.end ≡ Done a u → (bind r k).end ≡ (k a u).end
-unfolding bind
-bind_goes r k a u e = ap (λ x. end_then x (λ a u. (k a u).end)) e
-
 with_value_goes : (r : Run Evaluated) (k : Term → Account → Run Evaluated) (v : Term) (u : Account) → r.end ≡ Done (Value v) u → (with_value r k).end ≡ (k v u).end
-with_value_goes r k v u e = bind_goes r (λ e u. on_value e u k) (Value v) u e
+with_value_goes r k v u e = bind_end r (λ e u. on_value e u k) (Value v) u e
 
 contracted_goes : (go : Evaluating) (c : Term) (u : Account) → (contracted go c u).end ≡ (go c u).end
 unfolding bind

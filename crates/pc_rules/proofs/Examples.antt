@@ -15,7 +15,7 @@ use Rattle.pc_rules.specs.declared.broken.Broken.TheVariants.{NotAProduct, NotBe
 use Rattle.pc_rules.specs.declared.broken.Clash.TheVariants.{Sorts as ClashOfSorts}
 use Rattle.calculus_rules.specs.Environment.{Env}
 use Rattle.pc_rules.specs.DirectedRun as run
-use Rattle.pc_rules.specs.DirectedRun.{ticking, bind, run_all}
+use Rattle.pc_rules.specs.DirectedRun.{ticking, bind, run_all, most_nested}
 use Rattle.pc_rules.specs.DirectedWeakHead.{whnf, steps}
 use Rattle.pc_rules.specs.DirectedComparison.{compare, Test}
 use Rattle.pc_rules.specs.DirectedTyping.{infer, sort_of, check, retype, conv, check_all, sorts_of, branches_rule, types_rule, definitions_rule}
@@ -154,9 +154,9 @@ below_test (a ∷ []) (b ∷ []) = (a.level.0 == b.level.0) && nat_le a.add b.ad
 below_test u w = false
 
 abbrev checked : List Given → Term → ℕ → Verdict
-checked ds main n = verdict (environment_rule [] [] None below_test 2048 ds main (units n)).outcome
+checked ds main n = verdict (environment_rule [] [] None below_test most_nested ds main (units n)).outcome
 
-constant_false : (environment_rule [] [] None below_test 2048 (GivenBlock block_bool ∷ GivenConstant n_add BoolT (Some ff') ∷ []) (Const n_add) (units 3)).outcome
+constant_false : (environment_rule [] [] None below_test most_nested (GivenBlock block_bool ∷ GivenConstant n_add BoolT (Some ff') ∷ []) (Const n_add) (units 3)).outcome
     ≡ Accepts (record { levels = 0; constraints = []; declarations = Constant n_add BoolT (Some ff') ∷ Whole block_bool ∷ [] }) BoolT
     (record { left = 0; uses = 0 ∷ 0 ∷ 0 ∷ 0 ∷ 0 ∷ 0 ∷ 1 ∷ 1 ∷ 1 ∷ 0 ∷ 0 ∷ 0 ∷ [] })
 unfolding verdict infer ticking bind sort_of check retype conv check_all sorts_of branches_rule steps compare same run_all declarations_rule and_then arguments_rule constructors_rule families_rule types_rule definitions_rule find body_guard

@@ -1,7 +1,7 @@
 -- Weak-head reduction and comparison never go back on units, and more units change no result.
 use Rattle.std.proofs.Common.{◌≡◌, ℕ, zero, suc, ◌+◌, ◌-◌, ◌==◌, ◌&&◌, Bool, true, List, [], ◌∷◌, length, Option, Some, None, refl, sym, ap, ◌∙◌, subst, arith}
 use Rattle.pc_terms.specs.declared.leaf.FamilyId.{FamilyId}
-use Rattle.pc_terms.specs.Syntax.{Term, Terms, SortT, Prod, Lambda, Case, Fix, head, args}
+use Rattle.pc_terms.specs.Syntax.{Term, Terms, SortT, Prod, Lambda, Case, Fix, head, args, list_of}
 use Rattle.calculus_rules.specs.declared.declaration.Constructor.{Constructor}
 use Rattle.calculus_rules.specs.declared.entry.Entry.TheVariants.{Assumed}
 use Rattle.pc_rules.specs.declared.broken.Broken.TheVariants.{NotBelow, UnknownName}
@@ -15,11 +15,11 @@ use Rattle.calculus_rules.specs.WeakHead.{WeakSteps, no_step, then_step}
 use Rattle.pc_rules.specs.DirectedRun.{Run, End, Done, Act, done, ticked, any_beyond, run_all, Leaves}
 use Rattle.calculus_rules.specs.Lookups.{family_of}
 use Rattle.pc_rules.specs.DirectedWeakHead.{weak_next, after_step, stuck_step, steps, whnf}
-use Rattle.calculus_rules.specs.Listed.{list_of}
 use Rattle.pc_rules.specs.DirectedComparison.{Test, Comparison, sorts_stand, alike, each_equal, entering, branches_equal, matches_equal, lifted_types, fixpoints_equal, heads_equal, spines_equal, pair, entered, compare}
 use Rattle.pc_rules.specs.DirectedLaws.{more, Stays}
 use Rattle.pc_rules.proofs.Fair.{IsFair, AreFair, no_act, an_act, fair_done, fair_refused, fair_passing, fair_nested, fair_if, fair_bind, fair_ticking, fair_all}
 use Rattle.pc_rules.proofs.WeakNext.{weak_next_found}
+use Rattle.pc_rules.proofs.Following.{steps_stop}
 
 stuck_leaves : (o : Option Term) (t : Term) (u : Account) → Leaves (stuck_step o (done t u)).end u.left
 stuck_leaves None t u = omega arith
@@ -41,12 +41,6 @@ unfolding steps
 steps_leaves E V zero t u = stuck_leaves (weak_next E V t) t u
 steps_leaves E V (suc m) t u =
     after_leaves (weak_next E V t) t u (λ x. steps E V m x (ticked u)) (λ x. leaves_ticked (steps E V m x (ticked u)).end u (steps_leaves E V m x (ticked u)))
-
--- where there is no step, the run is done
-steps_stop : (E : Env) (V : Values) (m : ℕ) (t : Term) (u : Account) → weak_next E V t ≡ None → steps E V m t u ≡ done t u
-unfolding steps
-steps_stop E V zero t u e = ap (λ o. stuck_step o (done t u)) e
-steps_stop E V (suc m) t u e = ap (λ o. after_step o (done t u) (λ x. steps E V m x (ticked u))) e
 
 -- where there is one, it goes on
 steps_go : (E : Env) (V : Values) (m : ℕ) (t x : Term) (u : Account) → weak_next E V t ≡ Some x → (steps E V (suc m) t u).end ≡ (steps E V m x (ticked u)).end

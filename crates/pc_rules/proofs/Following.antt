@@ -2,7 +2,7 @@
 use Rattle.std.proofs.Common.{◌≡◌, ◌∙◌, sym, ap, subst, refl, ℕ, zero, suc, ◌<◌, ◌-◌, ◌+◌, ◌^◌, ◌||◌, inl, inr, nat_lt, Result, Ok, Err, IsErrAnd, IsTrue, Bool, true, false, if◌then◌else◌, List, [], ◌∷◌, None, arith}
 use Rattle.std.proofs.lemmas.Bool.{lt-ltb}
 use Rattle.std.proofs.lemmas.Result.{err_from_is_err_and}
-use Rattle.trees.specs.Measures.{depth, above, IsBeyond}
+use Rattle.trees.specs.Measures.{depth, above, depth_limit, IsBeyond}
 use Rattle.pc_terms.specs.Syntax.{Term}
 use Rattle.pc_terms.specs.declared.term.MakeFault.{MakeFault}
 use Rattle.pc_terms.specs.declared.term.MakeFault.TheVariants.{TooDeep as DeepTerm, Memory as NoTerm}
@@ -20,7 +20,7 @@ use Rattle.pc_rules.specs.DirectedWeakHead.{weak_next, stuck_step, after_step, s
 use Rattle.pc_rules.specs.DirectedRun.{Run, End, Done, Refused, NoUnit, Act, ticked, noted, is_beyond, done, refused, no_unit, too_nested, made, passing, make, bind, end_then, paid, ticking, run_all, Leaves}
 use Rattle.pc_rules.specs.Follows.{Follows, IsAfter, Answers, Halts}
 use Rattle.pc_rules.specs.Leads.{Leads}
-use Rattle.pc_rules.proofs.Fair.{leaves_bind, same_left}
+use Rattle.pc_rules.proofs.Fair.{leaves_bind, same_left, paid_is}
 use Rattle.pc_rules.proofs.Meters.{after-refl, after-trans, after-tick, after-note}
 
 pub or_left : (a b : Bool) → IsTrue a → IsTrue (a || b)
@@ -40,6 +40,11 @@ pub bind_deep : {A B : Type 0} (d : Run A) (k : A → Account → Run B) (a : A)
 unfolding bind
 bind_deep d k a u e h = or_right d.deep _ (rw e h)
 
+-- a run whose first part has passed a limit has passed it
+pub first_deep : {A B : Type 0} (d : Run A) (k : A → Account → Run B) → IsTrue d.deep → IsTrue (bind d k).deep
+unfolding bind
+first_deep d k h = or_left d.deep _ h
+
 answers_more : {A B : Type 0} (d : Run A) (k : A → Account → Run B) (a : A) (u w : Account) (r : Result B Halt) → d.end ≡ Done a u → Answers (k a u) r w → Answers (bind d k) r w
 answers_more d k a u w (Ok b) e h = bind_end d k a u e ∙ h
 answers_more d k a u w (Err (Stop Spent)) e h = (bind_end d k a u e ∙ h.0, h.1)
@@ -47,7 +52,8 @@ answers_more d k a u w (Err (Stop TooDeep)) e h = bind_deep d k a u e h
 answers_more d k a u w (Err (Stop Memory)) e h = tt
 answers_more d k a u w (Err (Refusal b)) e h = bind_end d k a u e ∙ h
 
-answers_err : {A B : Type 0} (d : Run A) (k : A → Account → Run B) (w : Account) (h : Halt) → Halts d h w → Halts (bind d k) h w
+-- the first part halts
+pub answers_err : {A B : Type 0} (d : Run A) (k : A → Account → Run B) (w : Account) (h : Halt) → Halts d h w → Halts (bind d k) h w
 unfolding bind
 answers_err d k w (Stop Spent) h = (ap (λ x. end_then x (λ a u. (k a u).end)) h.0, h.1)
 answers_err d k w (Stop TooDeep) h = or_left d.deep _ h
@@ -112,23 +118,20 @@ follows_no_memory d s r m w e l =
     let f : Follows d (Err (Stop s)) m m = rw w (follows_memory d m l) in
     follows_passed d (Stop s) r m m e f
 
--- a unit is taken, and the rest follows
-paid-more : {A : Type 0} (n : ℕ) (go : Run A) → 0 < n → paid n go ≡ go
-paid-more zero go h = absurd (omega arith)
-paid-more (suc n) go h = refl
-
-paid-none : {A : Type 0} (n : ℕ) (go : Run A) → n ≡ 0 → paid n go ≡ no_unit
+-- where no unit is left, nothing is done
+pub paid-none : {A : Type 0} (n : ℕ) (go : Run A) → n ≡ 0 → paid n go ≡ no_unit
 paid-none zero go h = refl
 paid-none (suc n) go h = absurd (omega arith)
 
 pub ticking-more : {A : Type 0} (u : Account) (go : Account → Run A) → 0 < u.left → ticking u go ≡ go (ticked u)
 unfolding ticking
-ticking-more u go h = paid-more u.left (go (ticked u)) h
+ticking-more u go h = paid_is u.left (go (ticked u)) h
 
 pub ticking-none : {A : Type 0} (u : Account) (go : Account → Run A) → u.left ≡ 0 → ticking u go ≡ no_unit
 unfolding ticking
 ticking-none u go h = paid-none u.left (go (ticked u)) h
 
+-- a unit is taken, and the rest follows
 pub follows_tick : {A : Type 0} (go : Account → Run A) (r : Result A Halt) (m0 m1 m2 : Meter) → 0 < m0.account.left → m1.account ≡ ticked m0.account → m1.nest ≡ m0.nest → Follows (go m1.account) r m1 m2 → Follows (ticking m0.account go) r m0 m2
 follows_tick go r m0 m1 m2 h e n f =
     let s = after-trans m0 m1 m2 (after-tick m0 m1 e n) f.after in
@@ -168,8 +171,8 @@ follows_still d r m h l = record { answer = h; after = after-refl m; leaves = l 
 
 -- a term is beyond the limits exactly where the test says so
 pub beyond_is : (t : Term) → IsBeyond t → IsTrue (is_beyond t)
-beyond_is t (inl h) = or_left (nat_lt 2048 (depth t)) (nat_lt (2 ^ 32) (above t)) (lt-ltb 2048 (depth t) h)
-beyond_is t (inr h) = or_right (nat_lt 2048 (depth t)) (nat_lt (2 ^ 32) (above t)) (lt-ltb (2 ^ 32) (above t) h)
+beyond_is t (inl h) = or_left (nat_lt depth_limit (depth t)) (nat_lt (2 ^ 32) (above t)) (lt-ltb depth_limit (depth t) h)
+beyond_is t (inr h) = or_right (nat_lt depth_limit (depth t)) (nat_lt (2 ^ 32) (above t)) (lt-ltb (2 ^ 32) (above t) h)
 
 -- a term is made, or there is a fault
 pub follows_made : (t made : Term) (m : Meter) → made ≡ t → Follows (make t m.account) (Ok made) m m
@@ -222,13 +225,13 @@ pub follows_first_halted : (act : Act) (acts : List Act) (h : Halt) (r : Result 
 follows_first_halted act acts h r m0 m1 e p q = follows_passed (run_all (act ∷ acts) m0.account) h r m0 m1 e (follows_first_err act acts h m0 m1 p q)
 
 -- a term without a step is its own weak-head normal form
-steps_stay : (E : Env) (V : Values) (n : ℕ) (t : Term) (u : Account) → weak_next E V t ≡ None → steps E V n t u ≡ done t u
+pub steps_stop : (E : Env) (V : Values) (n : ℕ) (t : Term) (u : Account) → weak_next E V t ≡ None → steps E V n t u ≡ done t u
 unfolding steps
-steps_stay E V zero t u e = ap (λ o. stuck_step o (done t u)) e
-steps_stay E V (suc n) t u e = ap (λ o. after_step o (done t u) (λ next. steps E V n next (ticked u))) e
+steps_stop E V zero t u e = ap (λ o. stuck_step o (done t u)) e
+steps_stop E V (suc n) t u e = ap (λ o. after_step o (done t u) (λ next. steps E V n next (ticked u))) e
 
 pub follows_whnf_stays : (E : Env) (V : Values) (t same : Term) (m : Meter) → weak_next E V t ≡ None → same ≡ t → Follows (whnf E V t m.account) (Ok same) m m
-follows_whnf_stays E V t same m e p = rw (steps_stay E V m.account.left t m.account e, p) (follows_done t m)
+follows_whnf_stays E V t same m e p = rw (steps_stop E V m.account.left t m.account e, p) (follows_done t m)
 
 -- what is done at once goes on at once
 pub bind_done : {A B : Type 0} (a : A) (u : Account) (k : A → Account → Run B) → bind (done a u) k ≡ k a u

@@ -1,6 +1,6 @@
 -- Runs that have come to another one, and what follows them.
 use Rattle.std.proofs.Common.{◌≡◌, ◌∙◌, sym, refl, subst, ◌||◌, Bool, false, Result, Ok, Err}
-use Rattle.std.proofs.Math.Bool.{or-false}
+use Rattle.std.proofs.Math.Bool.{or_assoc, or-false}
 use Rattle.pc_rules.specs.declared.meter.Account.{Account}
 use Rattle.pc_rules.specs.declared.meter.Meter.{Meter}
 use Rattle.pc_rules.specs.declared.stop.Stop.TheVariants.{Spent, TooDeep, Memory}
@@ -28,6 +28,29 @@ deep_unit x Nested = sym (or-false x)
 pub bind_unit : {A : Type 0} (d : Run A) → d ≡ bind d (λ a u. done a u)
 unfolding bind
 bind_unit d = λ i. record { end = end_unit d.end i; deep = deep_unit d.deep d.end i }
+
+end_assoc : {A B C : Type 0} (e : End A) (f : A → Account → End B) (g : B → Account → End C) →
+    end_then (end_then e f) g ≡ end_then e (λ a u. end_then (f a u) g)
+end_assoc (Done a u) f g = refl
+end_assoc (Refused b u) f g = refl
+end_assoc NoUnit f g = refl
+end_assoc Nested f g = refl
+
+deep_assoc : {A B C : Type 0} (x : Bool) (e : End A) (f : A → Account → Run B) (g : B → Account → Run C) →
+    ((x || deep_then e (λ a u. (f a u).deep)) || deep_then (end_then e (λ a u. (f a u).end)) (λ b v. (g b v).deep)) ≡
+    (x || deep_then e (λ a u. (f a u).deep || deep_then (f a u).end (λ b v. (g b v).deep)))
+deep_assoc x (Done a u) f g = or_assoc x (f a u).deep (deep_then (f a u).end (λ b v. (g b v).deep))
+deep_assoc x (Refused b u) f g = or-false (x || false)
+deep_assoc x NoUnit f g = or-false (x || false)
+deep_assoc x Nested f g = or-false (x || false)
+
+-- one after the other is the same however they are grouped
+pub bind_assoc : {A B C : Type 0} (d : Run A) (f : A → Account → Run B) (g : B → Account → Run C) → bind (bind d f) g ≡ bind d (λ a u. bind (f a u) g)
+unfolding bind
+bind_assoc d f g = λ i. record {
+  end = end_assoc d.end (λ a u. (f a u).end) (λ b v. (g b v).end) i;
+  deep = deep_assoc d.deep d.end f g i;
+}
 
 pub leads_start : {A : Type 0} (d e : Run A) → d ≡ e → Leads d e
 leads_start d e p = subst (λ x. Leads d x) p (record { end = refl; deep = λ h. h })

@@ -1,12 +1,14 @@
 -- The test of sameness is true of two terms exactly where they are one tree.
-use Rattle.std.proofs.Common.{◌≡◌, ℕ, ◌==◌, ◌&&◌, Bool, true, false, IsTrue, ◌↔◌, List, [], ◌∷◌, refl, ap, subst}
-use Rattle.std.proofs.lemmas.Bool.{eqb-true, eq-eqb, and_from}
+use Rattle.std.proofs.Common.{◌≡◌, ◌≢◌, ℕ, suc, ◌==◌, ◌&&◌, Bool, true, false, IsTrue, ◌↔◌, List, [], ◌∷◌, length, refl, sym, ap, ◌∙◌, subst}
+use Rattle.std.proofs.lemmas.Bool.{eqb-true, eq-eqb, and_from, and_right}
 use Rattle.trees.proofs.Fusion.{child, group}
 use Rattle.universe_levels.specs.declared.level.LevelExpr.{LevelExpr}
 use Rattle.universe_levels.specs.declared.sort.Sort.{Sort}
 use Rattle.universe_levels.specs.declared.sort.Sort.TheVariants.{Prop, Of}
 use Rattle.pc_terms.specs.declared.leaf.FamilyId.{FamilyId}
 use Rattle.pc_terms.specs.Syntax.{Slot, slots, Term, Terms, Children, End, Child, Group, Done, Next, Rel, Node, Label, SortOf, ProdOf, LambdaOf, LetInOf, AppOf, ConstOf, IndOf, ConstructOf, CaseOf, FixOf}
+use Rattle.pc_terms.specs.Lists.{rargs_of}
+use Rattle.pc_terms.specs.declared.term.Def.{Def}
 use Rattle.calculus_rules.specs.Same.{same_numbers, same_parts, same_sorts, same_names, same_families, same_labels, same, same_children, same_terms}
 use Rattle.pc_rules.proofs.WeakNext.{same_names_is, same_families_is, both_true}
 
@@ -16,6 +18,13 @@ same_numbers_is (m ∷ ms) (n ∷ ns) e =
     let both = both_true (m == n) (same_numbers ms ns) e in λ i. eqb-true m n both.0 i ∷ same_numbers_is ms ns both.1 i
 same_numbers_is [] (n ∷ ns) e = cc
 same_numbers_is (m ∷ ms) [] e = cc
+
+-- recursive arguments of lists that aren't of one length
+pub rargs_other : (xs ys : List Def) → length xs ≢ length ys → same_numbers (rargs_of xs) (rargs_of ys) ≡ false
+rargs_other [] [] h = absurd (h refl)
+rargs_other [] (y ∷ ys) h = refl
+rargs_other (x ∷ xs) [] h = refl
+rargs_other (x ∷ xs) (y ∷ ys) h = and_right (x.rarg == y.rarg) _ (rargs_other xs ys (λ e. h (ap suc e)))
 
 pub same_parts_is : (ps qs : List LevelExpr) → same_parts ps qs ≡ true → ps ≡ qs
 same_parts_is [] [] e = refl
@@ -136,11 +145,8 @@ pub not_true : (b : Bool) → (b ≡ true → ⊥) → b ≡ false
 not_true true h = absurd (h refl)
 not_true false h = refl
 
-no_both : (r : Bool) → r ≡ false → r ≡ true → ⊥
-no_both r e k = cc
-
 pub same_yes : (a b : Term) (r : Bool) → (IsTrue r ↔ (a ≡ b)) → r ≡ true → same a b ≡ true
 same_yes a b r h e = let p : a ≡ b = h.0 e in rw p (same_itself b)
 
 pub same_no : (a b : Term) (r : Bool) → (IsTrue r ↔ (a ≡ b)) → r ≡ false → same a b ≡ false
-same_no a b r h e = not_true (same a b) (λ q. no_both r e (h.1 (same_is a b q)))
+same_no a b r h e = not_true (same a b) (λ q. false_true (sym e ∙ h.1 (same_is a b q)))

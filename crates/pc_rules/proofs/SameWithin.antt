@@ -79,24 +79,6 @@ agrees_passing n beyond = record { same = λ u l. refl; falls = λ u l. omega ar
 
 -- parts of runs that follow each other
 
-module _ {A B C : Type 0} (k : A → Account → Run B) (l : B → Account → Run C) where
-  end_assoc : (e : End A) → end_then (end_then e (λ a v. (k a v).end)) (λ b v. (l b v).end) ≡ end_then e (λ a v. end_then (k a v).end (λ b w. (l b w).end))
-  end_assoc (Done a v) = refl
-  end_assoc (Refused b v) = refl
-  end_assoc NoUnit = refl
-  end_assoc Nested = refl
-
-  deep_assoc : (x : Bool) (e : End A) → (x || deep_then e (λ a v. (k a v).deep)) || deep_then (end_then e (λ a v. (k a v).end)) (λ b v. (l b v).deep)
-      ≡ x || deep_then e (λ a v. (k a v).deep || deep_then (k a v).end (λ b w. (l b w).deep))
-  deep_assoc x (Done a v) = or_assoc x (k a v).deep (deep_then (k a v).end (λ b w. (l b w).deep))
-  deep_assoc x (Refused b v) = or_assoc x false false
-  deep_assoc x NoUnit = or_assoc x false false
-  deep_assoc x Nested = or_assoc x false false
-
-  pub bind_assoc : (d : Run A) → bind (bind d k) l ≡ bind d (λ a v. bind (k a v) l)
-  unfolding bind
-  bind_assoc d = λ i. record { end = end_assoc d.end i; deep = deep_assoc d.deep d.end i }
-
 -- a run that has passed what the rest has not, and what follows
 pub passed_first : {A B : Type 0} (x : Bool) (d : Run A) (k : A → Account → Run B) (u : Account) →
     bind (record { end = d.end; deep = x || d.deep }) k ≡ bind (passing x u) (λ _ v. bind d k)

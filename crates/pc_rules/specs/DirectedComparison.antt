@@ -7,7 +7,7 @@ use Rattle.universe_levels.specs.declared.sort.Sort.TheVariants.{Prop, Of}
 use Rattle.universe_levels.specs.Consistency.{Entails, IsOver}
 use Rattle.universe_levels.specs.declared.constraint.Constraint.{Constraint}
 use Rattle.pc_terms.specs.declared.leaf.FamilyId.{FamilyId}
-use Rattle.pc_terms.specs.Syntax.{Term, Terms, Rel, SortT, Prod, Lambda, Const, Ind, Construct, Case, Fix, head, args, number, shift}
+use Rattle.pc_terms.specs.Syntax.{Term, Terms, Rel, SortT, Prod, Lambda, Const, Ind, Construct, Case, Fix, head, args, number, shift, list_of}
 use Rattle.pc_terms.specs.Formed.{binders_of}
 use Rattle.calculus_rules.specs.declared.declaration.Constructor.{Constructor}
 use Rattle.calculus_rules.specs.declared.entry.Entry.TheVariants.{Assumed}
@@ -20,7 +20,6 @@ use Rattle.calculus_rules.specs.Same.{same, same_numbers, same_names, same_famil
 use Rattle.pc_rules.specs.DirectedRun.{Act, done, refused, too_nested, passing, bind, ticking, any_beyond, run_all}
 use Rattle.calculus_rules.specs.Lookups.{family_of}
 use Rattle.pc_rules.specs.DirectedWeakHead.{whnf}
-use Rattle.calculus_rules.specs.Listed.{list_of}
 
 -- a test of entailment between universes, which decides the meaning of entailment under the constraints, for universes of declared levels
 abbrev pub Test : Type 0

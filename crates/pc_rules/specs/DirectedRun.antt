@@ -1,10 +1,14 @@
 -- What directed rules do with units: how they end, and whether they have passed a limit till then. A rule is a function of the account of
 -- units and uses; all of them are put together from the runs below. They go on past a limit, and note that they have passed it.
 use Rattle.std.specs.Prelude.{ℕ, zero, suc, ◌+◌, ◌-◌, ◌≤◌, ◌^◌, Bool, true, false, ◌||◌, nat_lt, if◌then◌else◌, List, [], ◌∷◌, slice_index, slice_set}
-use Rattle.trees.specs.Measures.{depth, above}
+use Rattle.trees.specs.Measures.{depth, above, depth_limit}
 use Rattle.pc_terms.specs.Syntax.{Term}
 use Rattle.pc_rules.specs.declared.meter.Account.{Account}
 use Rattle.pc_rules.specs.declared.broken.Broken.{Broken}
+
+-- how many rules may stand in one another
+abbrev pub most_nested : ℕ
+most_nested = 2048
 
 -- one unit less
 abbrev pub ticked : Account → Account
@@ -20,7 +24,7 @@ noted rule u = record u { uses = slice_set u.uses (rule - 1) (one_more (slice_in
 
 -- a term is beyond the limits of terms in memory: its depth is over 2,048, or a variable's number over 4,294,967,295
 abbrev pub is_beyond : Term → Bool
-is_beyond t = nat_lt 2048 (depth t) || nat_lt (2 ^ 32) (above t)
+is_beyond t = nat_lt depth_limit (depth t) || nat_lt (2 ^ 32) (above t)
 
 abbrev pub any_beyond : List Term → Bool
 any_beyond [] = false

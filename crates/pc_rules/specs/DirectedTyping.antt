@@ -7,7 +7,7 @@ use Rattle.universe_levels.specs.declared.sort.Sort.TheVariants.{Prop, Of}
 use Rattle.universe_levels.specs.Sorts.{super_sort, product_sort}
 use Rattle.pc_terms.specs.declared.leaf.Name.{Name}
 use Rattle.pc_terms.specs.declared.leaf.FamilyId.{FamilyId}
-use Rattle.pc_terms.specs.Syntax.{Term, Terms, Rel, SortT, Prod, Lambda, LetIn, App, Const, Ind, Construct, Case, Fix, first, put, substitute, shift, apply, head, args, number, term_at}
+use Rattle.pc_terms.specs.Syntax.{Term, Terms, Rel, SortT, Prod, Lambda, LetIn, App, Const, Ind, Construct, Case, Fix, first, put, substitute, shift, apply, head, args, number, term_at, list_of}
 use Rattle.pc_terms.specs.Formed.{binders_of}
 use Rattle.calculus_rules.specs.declared.declaration.Constructor.{Constructor}
 use Rattle.calculus_rules.specs.declared.declaration.Block.{Block}
@@ -23,7 +23,6 @@ use Rattle.calculus_rules.specs.Same.{same, same_families}
 use Rattle.pc_rules.specs.DirectedRun.{Run, Act, done, refused, too_nested, passing, made, make, noted, bind, ticking, is_beyond, any_beyond}
 use Rattle.calculus_rules.specs.Lookups.{kept_at, known_block, whole_block}
 use Rattle.pc_rules.specs.DirectedWeakHead.{whnf}
-use Rattle.calculus_rules.specs.Listed.{list_of}
 use Rattle.pc_rules.specs.DirectedComparison.{Test, Comparison, compare}
 use Rattle.pc_rules.specs.DirectedGuard.{fix_guard}
 

@@ -6,6 +6,7 @@ ghost use Rattle.pc_rules.specs.DirectedComparison.{compare};
 ghost use Rattle.pc_rules.specs.Entailment.{test_of};
 ghost use Rattle.pc_rules.specs.Follows.{Follows};
 ghost use Rattle.pc_rules.specs.WellCounted.{IsCounted, IsCountedContext, IsCountedEnv};
+ghost use Rattle.pc_rules.specs.DirectedRun.{most_nested};
 
 use crate::context::Ctx;
 use crate::environment::Env;
@@ -38,7 +39,7 @@ pub trait Converter {
         requires ctx { IsCountedContext env.now ctx.now }
         requires left { IsCounted env.now a.now }
         requires right { IsCounted env.now b.now }
-        ensures follows { Follows (compare env.now (test_of env.now) (2048 - m.old.nest) ctx.now false a.now b.now m.old.account) result m.old m.new }
+        ensures follows { Follows (compare env.now (test_of env.now) (most_nested - m.old.nest) ctx.now false a.now b.now m.old.account) result m.old m.new }
         ensures below { IfOk result (λ _. Below env.now (values ctx.now) a.now b.now) };
 
     /// Whether two terms are equal (PCUIC, conversion), with the conditions and refusals of `below`.
@@ -55,7 +56,7 @@ pub trait Converter {
         requires ctx { IsCountedContext env.now ctx.now }
         requires left { IsCounted env.now a.now }
         requires right { IsCounted env.now b.now }
-        ensures follows { Follows (compare env.now (test_of env.now) (2048 - m.old.nest) ctx.now true a.now b.now m.old.account) result m.old m.new }
+        ensures follows { Follows (compare env.now (test_of env.now) (most_nested - m.old.nest) ctx.now true a.now b.now m.old.account) result m.old m.new }
         ensures equal { IfOk result (λ _. Equal env.now (values ctx.now) a.now b.now) };
 }
 

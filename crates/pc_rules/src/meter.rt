@@ -1,6 +1,6 @@
 //! Units left, uses of rules, and rules that stand in one another.
 ghost use Rattle.std.specs.Prelude.{◌≡◌, ◌<◌, ◌≤◌, ◌↔◌, ◌+◌, ◌-◌, ◌^◌, IsTrue, slice_index, replicate};
-ghost use Rattle.pc_rules.specs.DirectedRun.{ticked, noted};
+ghost use Rattle.pc_rules.specs.DirectedRun.{ticked, noted, most_nested};
 
 /// The most rules that stand in one another.
 pub const MOST_NESTED: u32 = 2048;
@@ -19,7 +19,7 @@ pub struct Meter {
     pub account: Account,
     /// How many rules stand in one another now.
     pub nest: u32,
-    ghost nested: { nest ≤ 2048 },
+    ghost nested: { nest ≤ most_nested },
 }
 
 impl Meter {
@@ -80,10 +80,10 @@ impl Meter {
 
     /// Enters a rule; false, and none is entered, exactly where 2,048 rules stand in one another. Takes no memory.
     pub fn enter(&mut self) -> bool
-        ensures may { IsTrue result ↔ (self.old.nest < 2048) }
+        ensures may { IsTrue result ↔ (self.old.nest < most_nested) }
         ensures account { self.new.account ≡ self.old.account }
         ensures nest { IsTrue result → self.new.nest ≡ self.old.nest + 1 }
-        ensures stays { self.old.nest ≡ 2048 → self.new.nest ≡ self.old.nest }
+        ensures stays { self.old.nest ≡ most_nested → self.new.nest ≡ self.old.nest }
     {
         if self.nest == MOST_NESTED {
             return false;
@@ -94,7 +94,7 @@ impl Meter {
 
     /// How many rules may still stand in one another. Takes no memory.
     pub fn room(&self) -> u32
-        ensures is { result + self.now.nest ≡ 2048 }
+        ensures is { result + self.now.nest ≡ most_nested }
     {
         MOST_NESTED - self.nest
     }

@@ -8,6 +8,7 @@ ghost use Rattle.pc_rules.specs.DirectedTyping.{infer, sort_of, check};
 ghost use Rattle.pc_rules.specs.Entailment.{test_of};
 ghost use Rattle.pc_rules.specs.Follows.{Follows};
 ghost use Rattle.pc_rules.specs.WellCounted.{IsCountedContext, IsCountedEnv};
+ghost use Rattle.pc_rules.specs.DirectedRun.{most_nested};
 
 use crate::context::Ctx;
 use crate::environment::Env;
@@ -36,7 +37,7 @@ pub trait Typer {
     ) -> Result<Term, Halt>
         requires env { IsCountedEnv env.now }
         requires ctx { IsCountedContext env.now ctx.now }
-        ensures follows { Follows (infer env.now (test_of env.now) (2048 - m.old.nest) ctx.now t.now m.old.account) result m.old m.new }
+        ensures follows { Follows (infer env.now (test_of env.now) (most_nested - m.old.nest) ctx.now t.now m.old.account) result m.old m.new }
         ensures typed { IfOk result (λ ty. Types guarded env.now ctx.now t.now ty) };
 
     /// The sort of a term that is a type.
@@ -50,7 +51,7 @@ pub trait Typer {
     ) -> Result<Sort, Halt>
         requires env { IsCountedEnv env.now }
         requires ctx { IsCountedContext env.now ctx.now }
-        ensures follows { Follows (sort_of env.now (infer env.now (test_of env.now) (2048 - m.old.nest)) ctx.now t.now m.old.account) result m.old m.new }
+        ensures follows { Follows (sort_of env.now (infer env.now (test_of env.now) (most_nested - m.old.nest)) ctx.now t.now m.old.account) result m.old m.new }
         ensures typed { IfOk result (λ s. Types guarded env.now ctx.now t.now (SortT s)) };
 
     /// Whether a term has a type.
@@ -65,7 +66,7 @@ pub trait Typer {
     ) -> Result<(), Halt>
         requires env { IsCountedEnv env.now }
         requires ctx { IsCountedContext env.now ctx.now }
-        ensures follows { Follows (check env.now (infer env.now (test_of env.now) (2048 - m.old.nest)) (compare env.now (test_of env.now) (2048 - m.old.nest)) ctx.now t.now ty.now m.old.account) result m.old m.new }
+        ensures follows { Follows (check env.now (infer env.now (test_of env.now) (most_nested - m.old.nest)) (compare env.now (test_of env.now) (most_nested - m.old.nest)) ctx.now t.now ty.now m.old.account) result m.old m.new }
         ensures typed { IfOk result (λ _. Types guarded env.now ctx.now t.now ty.now) };
 }
 

@@ -7,7 +7,7 @@ use Rattle.pc_terms.specs.Lists.{arms_of, types_of, bodies_of, depth_defs}
 use Rattle.pc_terms.specs.declared.term.Branch.{Branch}
 use Rattle.pc_terms.specs.declared.term.Def.{Def}
 
-term_within : (ts : List Term) (i : ℕ) (o : Term) → i < length ts → depth (get_or ts i o) ≤ depth_trees (terms_of ts)
+pub term_within : (ts : List Term) (i : ℕ) (o : Term) → i < length ts → depth (get_or ts i o) ≤ depth_trees (terms_of ts)
 term_within [] i o l = absurd (omega arith)
 term_within (t ∷ ts) zero o l = omega arith
 term_within (t ∷ ts) (suc i) o l = omega (arith, term_within ts i o (omega arith))
@@ -15,7 +15,7 @@ term_within (t ∷ ts) (suc i) o l = omega (arith, term_within ts i o (omega ari
 pub term_in : (ts : List Term) (i : ℕ) (t : Term) → i < length ts → t ≡ get_or ts i t → depth t ≤ depth_trees (terms_of ts)
 term_in ts i t l is = subst (λ u. depth u ≤ depth_trees (terms_of ts)) (sym is) (term_within ts i t l)
 
-body_within : (bs : List Branch) (i : ℕ) (o : Branch) → i < length bs → depth (get_or bs i o).body ≤ depth_trees (arms_of bs)
+pub body_within : (bs : List Branch) (i : ℕ) (o : Branch) → i < length bs → depth (get_or bs i o).body ≤ depth_trees (arms_of bs)
 body_within [] i o l = absurd (omega arith)
 body_within (b ∷ bs) zero o l = omega arith
 body_within (b ∷ bs) (suc i) o l = omega (arith, body_within bs i o (omega arith))

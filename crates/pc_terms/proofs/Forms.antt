@@ -1,7 +1,7 @@
 -- The tree of a node is formed where its parts are.
 use Rattle.std.specs.List.{All}
-use Rattle.std.proofs.Common.{◌≡◌, ℕ, suc, ◌<◌, List, [], ◌∷◌, length, refl, sym, arith}
-use Rattle.trees.specs.Tree.{Rel, Node, Group, End, terms_of}
+use Rattle.std.proofs.Common.{◌≡◌, ℕ, suc, ◌<◌, List, [], ◌∷◌, length, refl, sym, ap, arith}
+use Rattle.trees.specs.Tree.{Rel, Node, Group, End, terms_of, number}
 use Rattle.trees.specs.Shape.{binders_of, EachTerm, AreAll}
 use Rattle.pc_terms.specs.Syntax.{Term, SortOf, ProdOf, LambdaOf, LetInOf, AppOf, ConstOf, IndOf, ConstructOf, CaseOf, FixOf, HasIndex}
 use Rattle.pc_terms.specs.Formed.{HasForm, IsFormed}
@@ -43,9 +43,14 @@ bodies_of-formed : (m : ℕ) (ds : List Def) → All (λ d. IsFormed d.ty × IsF
 bodies_of-formed m [] h = tt
 bodies_of-formed m (d ∷ ds) h = ((h 0 d (omega arith)).1, bodies_of-formed m ds (λ i o l. h (suc i) o (omega (arith, l))))
 
-terms_of-closed : (xs : List Term) → AreAll 0 (binders_of (terms_of xs))
+pub terms_of-closed : (xs : List Term) → AreAll 0 (binders_of (terms_of xs))
 terms_of-closed [] = tt
 terms_of-closed (x ∷ xs) = (refl, terms_of-closed xs)
+
+-- as many terms as their list has
+pub number_terms : (xs : List Term) → number (terms_of xs) ≡ length xs
+number_terms [] = refl
+number_terms (x ∷ xs) = ap suc (number_terms xs)
 
 types_of-closed : (ds : List Def) → AreAll 0 (binders_of (types_of ds))
 types_of-closed [] = tt

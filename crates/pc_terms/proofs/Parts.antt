@@ -2,7 +2,7 @@
 use Rattle.std.proofs.Common.{◌≡◌, ℕ, zero, suc, ◌<◌, ◌≤◌, ◌^◌, ◌⊎◌, inl, inr, List, [], ◌∷◌, length, map, get_or, max, refl, subst as along, arith}
 use Rattle.trees.specs.Tree.{terms_of}
 use Rattle.pc_terms.specs.Syntax.{Term}
-use Rattle.trees.specs.Measures.{depth_trees, above_trees, IsBeyond, AreBeyond}
+use Rattle.trees.specs.Measures.{depth_trees, above_trees, depth_limit, IsBeyond, AreBeyond}
 use Rattle.trees.specs.Substitution.{walk, walk_trees}
 use Rattle.trees.proofs.Closed.{deeper_is}
 use Rattle.pc_terms.specs.Lists.{arms_of, types_of, bodies_of, rargs_of, AreBeyondDefs, walk_branch, walk_def}
@@ -38,7 +38,7 @@ rargs_length [] = refl
 rargs_length (d ∷ ds) = omega (arith, rargs_length ds)
 
 -- where one item is beyond the limits, the list is
-pub larger : {a b c d : ℕ} → a ≤ c → b ≤ d → (2048 < a) ⊎ (2 ^ 32 < b) → (2048 < c) ⊎ (2 ^ 32 < d)
+pub larger : {a b c d : ℕ} → a ≤ c → b ≤ d → (depth_limit < a) ⊎ (2 ^ 32 < b) → (depth_limit < c) ⊎ (2 ^ 32 < d)
 larger h g (inl e) = inl (omega arith)
 larger h g (inr e) = inr (omega arith)
 
@@ -60,7 +60,7 @@ pub beyond_arms-one : (f : Branch → Branch) (ys : List Branch) (i : ℕ) (y : 
 beyond_arms-one f ys i y is h e = beyond_arms-at f ys i y h (along (λ (y : Branch). IsBeyond (f y).body) is e)
 
 abbrev AreBeyondUnder : ℕ → List Def → Type 0
-AreBeyondUnder m ds = (2048 < max (depth_trees (types_of ds)) (depth_trees (bodies_of m ds))) ⊎ (2 ^ 32 < max (above_trees (types_of ds)) (above_trees (bodies_of m ds)))
+AreBeyondUnder m ds = (depth_limit < max (depth_trees (types_of ds)) (depth_trees (bodies_of m ds))) ⊎ (2 ^ 32 < max (above_trees (types_of ds)) (above_trees (bodies_of m ds)))
 
 beyond_defs-at : (f : Def → Def) (m : ℕ) (ys : List Def) (i : ℕ) (o : Def) → i < length ys → IsBeyond (f (get_or ys i o)).ty ⊎ IsBeyond (f (get_or ys i o)).body → AreBeyondUnder m (map f ys)
 beyond_defs-at f m [] i o h e = absurd (omega arith)

@@ -2,7 +2,7 @@
 use Rattle.std.specs.Prelude.{ℕ, ◌+◌, ◌<◌, ◌^◌, ◌⊎◌, max, List, [], ◌∷◌, length, map}
 use Rattle.trees.specs.Tree.{Done, Next, terms_of}
 use Rattle.pc_terms.specs.Syntax.{Term, Terms}
-use Rattle.trees.specs.Measures.{depth, depth_trees, loose_trees, above_trees}
+use Rattle.trees.specs.Measures.{depth, depth_trees, loose_trees, above_trees, depth_limit}
 use Rattle.trees.specs.Substitution.{walk}
 use Rattle.pc_terms.specs.declared.term.Branch.{Branch}
 use Rattle.pc_terms.specs.declared.term.Def.{Def}
@@ -38,7 +38,7 @@ abbrev pub depth_match : Match → ℕ
 depth_match m = max (max (depth_trees (terms_of m.params)) (depth m.ret)) (max (depth m.scrut) (depth_trees (arms_of m.branches)))
 
 abbrev pub AreBeyondDefs : List Def → Type 0
-AreBeyondDefs ds = (2048 < depth_defs ds) ⊎ (2 ^ 32 < above_defs ds)
+AreBeyondDefs ds = (depth_limit < depth_defs ds) ⊎ (2 ^ 32 < above_defs ds)
 
 abbrev pub walk_branch : (ℕ → ℕ → Term) → ℕ → Branch → Branch
 walk_branch f k b = record { binders = b.binders; body = walk f (k + b.binders) b.body }

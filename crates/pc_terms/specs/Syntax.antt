@@ -1,6 +1,6 @@
 -- The source language, PCUIC (Sozeau et al., "Coq Coq Correct!", POPL 2020): its labels, the places of each, and its formers.
 use Rattle.std.specs.Prelude.{ℕ, zero, suc, ◌<◌, List, [], ◌∷◌, ◌++◌, length}
-pub use Rattle.trees.specs.Tree.{Slot, Under, Lists, Tree, Rel, Node, Places, End, Child, Group, Trees, Done, Next, terms_of, number, term_at}
+pub use Rattle.trees.specs.Tree.{Slot, Under, Lists, Tree, Rel, Node, Places, End, Child, Group, Trees, Done, Next, terms_of, list_of, number, term_at}
 pub use Rattle.trees.specs.Substitution.{lift, subst, subst_list}
 pub use Rattle.trees.specs.Parallel.{up, ups, rename, rename_children, rename_terms, over, overs, substitute, substitute_children, substitute_terms, shift, first, put, put_all}
 pub use Rattle.trees.specs.Closed.{Closed, ClosedChildren, ClosedTerms, ClosedEach, Every, EveryChild, EveryTerm}

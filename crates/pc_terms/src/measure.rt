@@ -1,8 +1,8 @@
 //! Depth and loose bound of a node, from those of its parts.
-ghost use Rattle.std.specs.Prelude.{◌≡◌, ◌≤◌, ◌^◌};
+ghost use Rattle.std.specs.Prelude.{◌+◌, ◌≡◌, ◌≤◌, ◌^◌};
 ghost use Rattle.std.specs.List.{All};
 ghost use Rattle.trees.specs.Tree.{terms_of};
-ghost use Rattle.trees.specs.Measures.{depth, depth_trees, loose, loose_trees, above, above_trees};
+ghost use Rattle.trees.specs.Measures.{depth, depth_trees, loose, loose_trees, above, above_trees, depth_limit};
 ghost use Rattle.pc_terms.specs.Syntax.{HasIndex};
 ghost use Rattle.pc_terms.specs.Formed.{IsFormed};
 ghost use Rattle.pc_terms.specs.Lists.{arms_of, depth_defs, above_defs, loose_defs};
@@ -15,7 +15,7 @@ use crate::term::{Branches, Defs, Match, Node, Terms};
 impl Terms {
     pub(crate) fn depth(&self) -> u32
         ensures is { result ≡ depth_trees (terms_of self.now) }
-        ensures depths { depth_trees (terms_of self.now) ≤ 2048 }
+        ensures depths { depth_trees (terms_of self.now) ≤ depth_limit }
         ensures numbers { above_trees (terms_of self.now) ≤ 2 ^ 32 }
         ensures formed { All IsFormed self.now }
     {
@@ -41,7 +41,7 @@ impl Terms {
 impl Branches {
     pub(crate) fn depth(&self) -> u32
         ensures is { result ≡ depth_trees (arms_of self.now) }
-        ensures depths { depth_trees (arms_of self.now) ≤ 2048 }
+        ensures depths { depth_trees (arms_of self.now) ≤ depth_limit }
         ensures numbers { above_trees (arms_of self.now) ≤ 2 ^ 32 }
         ensures formed { All (λ b. IsFormed b.body) self.now }
     {
@@ -67,7 +67,7 @@ impl Branches {
 impl Defs {
     pub(crate) fn depth(&self) -> u32
         ensures is { result ≡ depth_defs self.now }
-        ensures depths { depth_defs self.now ≤ 2048 }
+        ensures depths { depth_defs self.now ≤ depth_limit }
         ensures numbers { above_defs self.now ≤ 2 ^ 32 }
         ensures formed { All (λ d. IsFormed d.ty × IsFormed d.body) self.now }
     {
@@ -96,7 +96,7 @@ impl Defs {
 impl Match {
     pub(crate) fn depth(&self) -> u32
         ensures is { result ≡ depth (tree_of (Case self.now)) }
-        ensures depths { depth (tree_of (Case self.now)) ≤ 2049 }
+        ensures depths { depth (tree_of (Case self.now)) ≤ depth_limit + 1 }
         ensures numbers { above (tree_of (Case self.now)) ≤ 2 ^ 32 }
         ensures formed { IsFormed (tree_of (Case self.now)) }
     {
@@ -110,7 +110,7 @@ impl Match {
 impl Node {
     pub(crate) fn depth(&self) -> u32
         ensures is { result ≡ depth (tree_of self.now) }
-        ensures depths { depth (tree_of self.now) ≤ 2049 }
+        ensures depths { depth (tree_of self.now) ≤ depth_limit + 1 }
         ensures numbers { above (tree_of self.now) ≤ 2 ^ 32 }
         ensures formed { HasIndex (tree_of self.now) → IsFormed (tree_of self.now) }
     {

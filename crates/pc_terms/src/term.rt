@@ -19,6 +19,9 @@ use std::rc::Rc;
 use thiserror::Error;
 use universe_levels::sort::Sort;
 
+/// The greatest depth of a term.
+pub const DEPTH_LIMIT: u32 = 2048;
+
 /// A term: a shared node, which keeps its depth, its loose bound and a stamp by which it is known again.
 ///
 /// Contracts see it as a tree. Its depth is at most 2,048, its variables are numbers of 32 bits, and all its nodes are formed: a match's
@@ -271,7 +274,7 @@ impl Term {
         ensures beyond { IsBeyond (tree_of node) → result ≡ Err TooDeep }
     {
         let depth = node.depth();
-        if depth > 2048 {
+        if depth > DEPTH_LIMIT {
             return Err(MakeFault::TooDeep);
         }
         let loose = kept_bound(node.loose());
@@ -300,7 +303,7 @@ impl Term {
         ensures too_deep { IfErr result (λ e. e ≡ TooDeep → IsBeyond (tree_of (Case whole))) }
         ensures beyond { IsBeyond (tree_of (Case whole)) → result ≡ Err TooDeep }
     {
-        if whole.depth() > 2048 {
+        if whole.depth() > DEPTH_LIMIT {
             return Err(MakeFault::TooDeep);
         }
         match Box::new(alloc, whole) {

@@ -16,7 +16,7 @@ use Rattle.anf_convert.specs.declared.program.Atom.TheVariants.{Empty as AEmpty}
 use Rattle.shrink_passes.specs.Inline.{inline_program}
 use Rattle.shrink_passes.specs.DropParams.{drop_program}
 use Rattle.anf_convert.specs.ToAnf.{to_anf}
-use Rattle.closure_lift.specs.Lifted.{RetAtom, Program}
+use Rattle.closure_lift.specs.Lifted.{TailAtom, Program}
 use Rattle.closure_lift.specs.Lift.{lift}
 use Rattle.closure_lift.specs.CapturedLimit.{ProgramCaptures}
 use Rattle.closure_lift.specs.Lifting.{most_words}
@@ -67,7 +67,7 @@ no_words (F ∷ Fs) h = ap (λ x. max x (greatest_arguments Fs)) (no_greatest F.
 -- ---- the program after the passes
 
 abbrev bare : ℕ → Program
-bare c = record { functions = []; constants = []; main = RetAtom (AEmpty c) }
+bare c = record { functions = []; constants = []; main = TailAtom (AEmpty c) }
 
 abbrev program_with : List BoxFamily → BoxTerm → BoxProgram
 program_with Fs t = record { constants = []; families = map without_parameters Fs; main = t }

@@ -10,9 +10,9 @@ use Rattle.calculus_rules.specs.Instances.{products}
 use Rattle.calculus_rules.specs.Evaluation.{sort_is, prod_is, lambda_is, ind_is, construct_is, fix_is, family, constructor, fixpoint}
 use Rattle.calculus_rules.specs.Typing.{bare, Types}
 use Rattle.calculus_rules.specs.Accepted.{IsAccepted}
-use Rattle.calculus_rules.proofs.Spines.{apply_one_more}
+use Rattle.calculus_rules.proofs.Spines.{apply_one_more, substitute-apply}
 use Rattle.typing_laws.proofs.Generating.{of_sort, of_prod, of_construct, of_apply}
-use Rattle.typing_laws.proofs.Telescopes.{substitute-apply, products_append}
+use Rattle.typing_laws.proofs.Telescopes.{products_append}
 use Rattle.typing_laws.proofs.Traversal.{types_at, below_at}
 use Rattle.type_laws.proofs.Apart.{sort_not_product, family_not_product}
 use Rattle.type_laws.proofs.Canonical.{one_longer}

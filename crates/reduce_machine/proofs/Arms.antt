@@ -10,14 +10,13 @@ use Rattle.pc_terms.specs.declared.term.Node.{Node}
 use Rattle.pc_terms.specs.declared.term.Node.TheVariants.{Case as CaseNode, Fix as FixNode}
 use Rattle.pc_terms.specs.Lists.{arms_of}
 use Rattle.pc_terms.specs.Syntax.{Term, Terms, App, apply, term_at}
-use Rattle.pc_terms.proofs.Applied.{beyond-apply}
+use Rattle.pc_terms.proofs.Applied.{beyond-apply, argument_beyond}
 use Rattle.trees.specs.Measures.{IsBeyond}
 use Rattle.pc_terms.specs.View.{tree_of}
 use Rattle.calculus_rules.specs.Lookups.{if_some}
 use Rattle.calculus_rules.specs.Same.{same_families}
 use Rattle.pc_rules.proofs.SameTrees.{not_true}
 use Rattle.redexes.proofs.Reading.{arm_some, arm_none}
-use Rattle.reduction.proofs.Plugging.{argument_beyond}
 use Rattle.reduce_machine.specs.Arms.{arm_at}
 use Rattle.reduce_machine.specs.Layers.{IsMatchNode, IsFixNode}
 use Rattle.reduce_machine.specs.Reads.{read}

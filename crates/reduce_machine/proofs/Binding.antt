@@ -1,5 +1,5 @@
 -- Arguments that are bound or put around a body, one after the other.
-use Rattle.std.proofs.Common.{◌≡◌, ℕ, zero, suc, ◌+◌, ◌<◌, ◌≤◌, List, [], ◌∷◌, ◌++◌, length, drop, map, get_or, refl, sym, ap, ◌∙◌, arith, Result, Ok, Err, IfOk, IfErr, ◌⊎◌, inl, inr}
+use Rattle.std.proofs.Common.{◌≡◌, ℕ, zero, suc, ◌+◌, ◌<◌, ◌≤◌, List, [], ◌∷◌, ◌++◌, length, drop, map, get_or, refl, sym, ap, ◌∙◌, Result, Ok, Err, IfOk, IfErr, ◌⊎◌, inl, inr}
 use Rattle.trees.specs.Measures.{IsBeyond}
 use Rattle.pc_terms.specs.declared.term.MakeFault.TheVariants.{TooDeep}
 use Rattle.redexes.proofs.Unfolding.{body_beyond}
@@ -19,17 +19,12 @@ use Rattle.reduce_machine.proofs.Arms.{drop_item}
 use Rattle.reduce_machine.proofs.Keeping.{waiting_pushed}
 use Rattle.reduce_machine.proofs.Layering.{layers_last, sound_pushed}
 use Rattle.reduce_machine.proofs.Plugging.{plug_last}
+use Rattle.pc_rules.proofs.ListSteps.{none_left}
 
 map_drop : (xs : List Lazy) (n : ℕ) → map read (drop n xs) ≡ drop n (map read xs)
 map_drop xs zero = refl
 map_drop [] (suc n) = refl
 map_drop (x ∷ xs) (suc n) = map_drop xs n
-
-pub drop_all : {A : Type 0} (xs : List A) (n : ℕ) → length xs ≤ n → drop n xs ≡ []
-drop_all [] zero h = refl
-drop_all [] (suc n) h = refl
-drop_all (x ∷ xs) zero h = absurd (omega arith)
-drop_all (x ∷ xs) (suc n) h = drop_all xs n (omega arith)
 
 pub bind_start : (xs : List Lazy) (n : ℕ) (s : ℕ → Term) → put_all (map read (drop n xs)) s ≡ put_all (drop n (map read xs)) s
 bind_start xs n s = ap (λ ys. put_all ys s) (map_drop xs n)
@@ -41,7 +36,7 @@ bind_more xs i x l ys zs w e h p q r =
     ∙ sym (ap (λ y. put_all (map read y) (stands ys)) (drop_item xs i x e h)) ∙ r
 
 pub bind_done : (xs : List Lazy) (i : ℕ) (s w : ℕ → Term) → length xs ≤ i → put_all (map read (drop i xs)) s ≡ w → s ≡ w
-bind_done xs i s w h r = sym (ap (λ y. put_all (map read y) s) (drop_all xs i h)) ∙ r
+bind_done xs i s w h r = sym (ap (λ y. put_all (map read y) s) (none_left xs i h)) ∙ r
 
 pub pushed_plug : (fs gs : List Frame) (a : Lazy) (u : Term) → gs ≡ fs ++ (Argument a ∷ []) → plug (layers gs) u ≡ plug (layers fs) (App u (read a))
 pushed_plug fs gs a u e = ap (λ l. plug l u) (layers_last fs gs (Argument a) e) ∙ plug_last (layers fs) (ToArgument (read a)) u

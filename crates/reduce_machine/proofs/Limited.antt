@@ -1,7 +1,7 @@
 -- Terms, and items of lists, that pass the limits under so many nodes.
 use Rattle.std.proofs.Common.{◌≡◌, ℕ, zero, suc, ◌+◌, ◌<◌, ◌≤◌, ◌^◌, ◌⊎◌, inl, inr, List, [], ◌∷◌, length, map, get_or, max, subst as along, arith}
 use Rattle.trees.specs.Tree.{terms_of}
-use Rattle.trees.specs.Measures.{depth, depth_trees, above_trees, IsBeyond}
+use Rattle.trees.specs.Measures.{depth, depth_trees, above_trees, depth_limit, IsBeyond}
 use Rattle.pc_terms.specs.Syntax.{Term, Rel, Node}
 use Rattle.pc_terms.specs.Lists.{arms_of, types_of, bodies_of}
 use Rattle.pc_terms.specs.declared.term.Branch.{Branch}
@@ -22,10 +22,10 @@ some_depth : (t : Term) → 0 < depth t
 some_depth (Rel i) = omega arith
 some_depth (Node l ts) = omega arith
 
-pub no_room : (n : ℕ) (t : Term) → n ≡ 2048 → IsBeyondUnder n t
+pub no_room : (n : ℕ) (t : Term) → n ≡ depth_limit → IsBeyondUnder n t
 no_room n t e = inl (omega (arith, e, some_depth t))
 
-larger : {a b c d : ℕ} (n : ℕ) → a ≤ c → b ≤ d → (2048 < n + a) ⊎ (2 ^ 32 < b) → (2048 < n + c) ⊎ (2 ^ 32 < d)
+larger : {a b c d : ℕ} (n : ℕ) → a ≤ c → b ≤ d → (depth_limit < n + a) ⊎ (2 ^ 32 < b) → (depth_limit < n + c) ⊎ (2 ^ 32 < d)
 larger n h g (inl e) = inl (omega arith)
 larger n h g (inr e) = inr (omega arith)
 
@@ -51,7 +51,7 @@ arm_under n f ys i y is h e = arm_there n f ys i y h (along (λ (y : Branch). Is
 
 abbrev Beyond : ℕ → ℕ → List Def → Type 0
 Beyond n m ds =
-    (2048 < n + max (depth_trees (types_of ds)) (depth_trees (bodies_of m ds))) ⊎ (2 ^ 32 < max (above_trees (types_of ds)) (above_trees (bodies_of m ds)))
+    (depth_limit < n + max (depth_trees (types_of ds)) (depth_trees (bodies_of m ds))) ⊎ (2 ^ 32 < max (above_trees (types_of ds)) (above_trees (bodies_of m ds)))
 
 def_there : (n : ℕ) (f : Def → Def) (m : ℕ) (ys : List Def) (i : ℕ) (o : Def) → i < length ys →
     IsBeyondUnder n (f (get_or ys i o)).ty ⊎ IsBeyondUnder n (f (get_or ys i o)).body → Beyond n m (map f ys)

@@ -62,17 +62,13 @@ more_value v w a p b q r s = record {
   nested = along (λ ss. AreNested (ss.items ++ w.spine ∷ [])) (sym b) (nested_head v.below.items v.spine w.spine p s.nested);
 }
 
-falsely : (b : Bool) → b ≡ false → IsTrue b → ⊥
-falsely true p q = false≢true (sym p)
-falsely false p q = false≢true q
-
 as_lambda : (t : Term) → IsFunction t → IsLambda t
 as_lambda (Lambda A b) h = tt
 as_lambda t h = h
 
 pub waits_stuck : (E : Env) (V : Values) (v : Value) (a : Term) (b : Bool) → (IsLambda (term_of v) → ⊥) → IsValue v → (IsTrue b ↔ (v.missing ≡ Some 0)) → b ≡ false →
     weak_next E V (term_of v) ≡ None → weak_next E V (App (term_of v) a) ≡ None
-waits_stuck E V v a b h w d f e = application_waits E V (term_of v) a (λ k. h (as_lambda (term_of v) k)) (λ z. falsely b f (d.1 (w.lacks ∙ z))) e
+waits_stuck E V v a b h w d f e = application_waits E V (term_of v) a (λ k. h (as_lambda (term_of v) k)) (λ z. false≢true (sym f ∙ d.1 (w.lacks ∙ z))) e
 
 -- branches
 branch_here : (bs : Terms) (f g : FamilyId) (c : ℕ) (xs : List Term) → same_families f g ≡ true →
@@ -168,7 +164,7 @@ pub next_is : (v : Value) (b : Bool) → IsValue v → (IsTrue b ↔ (v.missing 
 next_is v b w d e = sym w.lacks ∙ d.0 (truly b e)
 
 pub not_none : (b : Bool) (xs : List Lazy) → (IsTrue b ↔ (xs ≡ [])) → b ≡ false → xs ≡ [] → ⊥
-not_none b xs d e h = falsely b e (d.1 h)
+not_none b xs d e h = false≢true (sym e ∙ d.1 h)
 
 pub are_none : (b : Bool) (xs : List Lazy) → (IsTrue b ↔ (xs ≡ [])) → b ≡ true → xs ≡ []
 are_none b xs d e = d.0 (truly b e)

@@ -8,6 +8,7 @@ use Rattle.calculus_rules.specs.Context.{Values}
 use Rattle.calculus_rules.proofs.Spines.{head-apply, args-apply}
 use Rattle.pc_rules.specs.DirectedWeakHead.{built_arguments, built, weak_next}
 use Rattle.pc_rules.proofs.WeakNext.{none_some}
+use Rattle.pc_rules.proofs.ListSteps.{none_left}
 use Rattle.reduction.specs.Frames.{with_scrutinee, missing, one_less, IsMatch}
 use Rattle.reduce_machine.specs.Layered.{ToArgument, InMatch, OfFixpoint}
 use Rattle.reduce_machine.specs.Layers.{IsOpen, IsOpenIn, IsMatchNode, IsFixNode}
@@ -19,7 +20,6 @@ use Rattle.reduce_machine.specs.declared.spines.Head.{Head}
 use Rattle.reduce_machine.specs.declared.spines.Head.TheVariants.{Open, Match, Fixpoint}
 use Rattle.reduce_machine.specs.declared.spines.Spine.{Spine}
 use Rattle.reduce_machine.proofs.Arms.{drop_item}
-use Rattle.reduce_machine.proofs.Binding.{drop_all}
 use Rattle.reduce_machine.proofs.HeadKinds.{unbound, fix_head, fix_args}
 use Rattle.reduce_machine.proofs.Plugging.{plug_steps, plug_beyond}
 
@@ -228,10 +228,10 @@ pub read_more : (ss : List Spine) (i : ℕ) (s : Spine) (t w : Term) → s ≡ g
 read_more ss i s t w e h p = sym (ap (λ qs. nested qs t) (drop_item ss i s e h)) ∙ p
 
 pub read_end : (ss : List Spine) (i : ℕ) (r : Spine) (o : Option Term) → length ss ≤ i → IsRest o (drop i ss ++ r ∷ []) → IsOn r.head o
-read_end ss i r o h k = (rest_on o r [] (along (λ qs. IsRest o (qs ++ r ∷ [])) (drop_all ss i h) k)).0
+read_end ss i r o h k = (rest_on o r [] (along (λ qs. IsRest o (qs ++ r ∷ [])) (none_left ss i h) k)).0
 
 pub read_whole : (ss : List Spine) (i : ℕ) (t w : Term) → length ss ≤ i → nested (drop i ss) t ≡ w → t ≡ w
-read_whole ss i t w h p = sym (ap (λ qs. nested qs t) (drop_all ss i h)) ∙ p
+read_whole ss i t w h p = sym (ap (λ qs. nested qs t) (none_left ss i h)) ∙ p
 
 pub read_deep : (ss : List Spine) (i : ℕ) (s r : Spine) (t w : Term) → s ≡ get_or ss i s → i < length ss → AreStuck (drop (i + 1) ss ++ r ∷ []) → nested (drop i ss) t ≡ w →
     IsBeyond (spine_on s t) → IsBeyond (spine_on r w)

@@ -8,7 +8,7 @@ use Rattle.calculus_rules.specs.Environment.{Env}
 use Rattle.calculus_rules.specs.Context.{Values}
 use Rattle.pc_rules.specs.DirectedWeakHead.{weak_next}
 use Rattle.trees.proofs.Put.{each_length}
-use Rattle.calculus_rules.proofs.Spines.{head-apply, args-apply, spine_is}
+use Rattle.calculus_rules.proofs.Spines.{head-apply, args-apply, spine_is, substitute-apply}
 use Rattle.reduction.proofs.Steps.{IsLambda, missing_is, application_waits}
 use Rattle.reduce_machine.specs.Normal.{IsWaiting, IsNormalHead}
 
@@ -62,13 +62,8 @@ head_itself n t e h = along (λ x. (head x ≡ x) × (args x ≡ [])) e (node n 
     node (AppNode f a) h = absurd (h f a refl)
     node n h = (refl, refl)
 
--- an application under a substitution
-pub substitute_apply : (s : ℕ → Term) (h : Term) (xs : List Term) → substitute s (apply h xs) ≡ apply (substitute s h) (map (substitute s) xs)
-substitute_apply s h [] = refl
-substitute_apply s h (x ∷ xs) = substitute_apply s (App h x) xs
-
 pub substitute_spine : (s : ℕ → Term) (t : Term) → substitute s t ≡ apply (substitute s (head t)) (map (substitute s) (args t))
-substitute_spine s t = ap (substitute s) (spine_is t) ∙ substitute_apply s (head t) (args t)
+substitute_spine s t = ap (substitute s) (spine_is t) ∙ substitute-apply s (head t) (args t)
 
 normal_itself : (E : Env) (V : Values) (h : Term) (n : ℕ) → IsNormalHead E V h n → (head h ≡ h) × (args h ≡ [])
 normal_itself E V (App g a) n k = absurd k

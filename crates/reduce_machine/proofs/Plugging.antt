@@ -2,12 +2,11 @@
 use Rattle.std.proofs.Common.{◌≡◌, ◌+◌, inl, inr, List, [], ◌∷◌, ◌++◌, Some, refl, ap, arith}
 use Rattle.trees.specs.Measures.{IsBeyond}
 use Rattle.pc_terms.specs.Syntax.{Term, Case}
+use Rattle.pc_terms.proofs.Applied.{function_beyond, argument_beyond}
 use Rattle.calculus_rules.specs.Environment.{Env}
 use Rattle.calculus_rules.specs.Context.{Values}
 use Rattle.pc_rules.specs.DirectedWeakHead.{case_step, weak_next}
-use Rattle.redexes.proofs.Unfolding.{function_beyond}
 use Rattle.reduce_machine.specs.Layered.{Layer, ToArgument, InMatch, OfFixpoint, ByItself, around, plug, IsFrame, AreFrames, weight, weights}
-use Rattle.reduction.proofs.Plugging.{argument_beyond}
 use Rattle.reduction.proofs.Steps.{function_steps, argument_steps}
 
 -- a step in a frame is a step

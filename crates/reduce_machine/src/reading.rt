@@ -2,7 +2,7 @@
 ghost use Rattle.std.specs.Prelude.{◌≡◌, ◌<◌, ◌≤◌, ◌^◌, IfOk, IfErr, length, map};
 ghost use Rattle.trees.specs.Tree.{terms_of};
 ghost use Rattle.trees.specs.Substitution.{walk};
-ghost use Rattle.trees.specs.Measures.{IsWithin, IsBeyond, AreBeyond};
+ghost use Rattle.trees.specs.Measures.{depth_limit, IsWithin, IsBeyond, AreBeyond};
 ghost use Rattle.pc_terms.specs.Syntax.{overs, substitute};
 ghost use Rattle.pc_terms.specs.Lists.{arms_of, AreBeyondDefs, walk_branch, walk_def, walk_match};
 ghost use Rattle.pc_terms.specs.View.{tree_of};
@@ -15,7 +15,9 @@ ghost use Rattle.reduce_machine.specs.Reads.{stands, stands_under, read};
 
 use crate::bindings::{Bindings, Found, Lazy};
 use crate::memo::Memo;
-use pc_terms::term::{Branch, Branches, Def, Defs, MakeFault, Match, Node, Term, Terms};
+use pc_terms::term::{
+    Branch, Branches, DEPTH_LIMIT, Def, Defs, MakeFault, Match, Node, Term, Terms,
+};
 use std::alloc::Global;
 
 impl Lazy {
@@ -90,7 +92,7 @@ fn read_terms(
     env: &Bindings,
 ) -> Result<Terms, MakeFault>
     requires small { k < 2 ^ 32 }
-    requires limit { at ≤ 2048 }
+    requires limit { at ≤ depth_limit }
     ensures ok { IfOk result (λ out. out ≡ map (walk (stands_under env.now.items) k) terms.now) }
     ensures too_deep { IfErr result (λ e. e ≡ TooDeep → AreBeyondUnder at (terms_of (map (walk (stands_under env.now.items) k) terms.now))) }
 {
@@ -113,7 +115,7 @@ fn read_branches(
     env: &Bindings,
 ) -> Result<Branches, MakeFault>
     requires small { k < 2 ^ 32 }
-    requires limit { at ≤ 2048 }
+    requires limit { at ≤ depth_limit }
     ensures ok { IfOk result (λ out. out ≡ map (walk_branch (stands_under env.now.items) k) branches.now) }
     ensures too_deep { IfErr result (λ e. e ≡ TooDeep → AreBeyondUnder at (arms_of (map (walk_branch (stands_under env.now.items) k) branches.now))) }
 {
@@ -131,7 +133,7 @@ fn read_branches(
 #[tactic(auto, using(pc_terms::proofs::Parts::part_laws, crate::proofs::Limited::limit_laws, std::proofs::lemmas::Grind::common_steps))]
 fn read_defs(defs: &Defs, alloc: Global, at: u32, k: u64, env: &Bindings) -> Result<Defs, MakeFault>
     requires small { k < 2 ^ 32 }
-    requires limit { at ≤ 2048 }
+    requires limit { at ≤ depth_limit }
     ensures ok { IfOk result (λ out. out ≡ map (walk_def (stands_under env.now.items) k (length defs.now)) defs.now) }
     ensures too_deep { IfErr result (λ e. e ≡ TooDeep → AreDefsBeyondUnder at (map (walk_def (stands_under env.now.items) k (length defs.now)) defs.now)) }
 {
@@ -152,11 +154,11 @@ fn read_defs(defs: &Defs, alloc: Global, at: u32, k: u64, env: &Bindings) -> Res
 #[tactic(auto, using(pc_terms::proofs::Parts::part_laws, crate::proofs::Limited::limit_laws, std::proofs::lemmas::Grind::common_steps))]
 fn read_match(m: &Match, alloc: Global, at: u32, k: u64, env: &Bindings) -> Result<Match, MakeFault>
     requires small { k < 2 ^ 32 }
-    requires limit { at ≤ 2048 }
+    requires limit { at ≤ depth_limit }
     ensures ok { IfOk result (λ out. out ≡ walk_match (stands_under env.now.items) k m.now) }
     ensures too_deep { IfErr result (λ e. e ≡ TooDeep → IsBeyondUnder at (tree_of (Case (walk_match (stands_under env.now.items) k m.now)))) }
 {
-    if at == 2048 {
+    if at == DEPTH_LIMIT {
         return Err(MakeFault::TooDeep);
     }
     let inner = at + 1;
@@ -178,7 +180,7 @@ fn read_match(m: &Match, alloc: Global, at: u32, k: u64, env: &Bindings) -> Resu
 #[cycle(reading)]
 #[tactic(auto, using(crate::proofs::Memos::memo_laws, crate::proofs::Limited::limit_laws))]
 fn read_item(item: &Lazy, memo: &Option<Memo>, alloc: Global, at: u32) -> Result<Term, MakeFault>
-    requires limit { at ≤ 2048 }
+    requires limit { at ≤ depth_limit }
     requires memo { IsMemo memo.now (read item.now) }
     ensures ok { IfOk result (λ t. t ≡ walk (stands_under item.now.env.items) 0 item.now.term) }
     ensures within { IfOk result IsWithin }
@@ -199,7 +201,7 @@ fn read_item(item: &Lazy, memo: &Option<Memo>, alloc: Global, at: u32) -> Result
 #[cycle(reading)]
 #[tactic(auto, using(crate::proofs::Limited::limit_laws))]
 fn read_variable(i: u32, alloc: Global, at: u32, k: u32, env: &Bindings) -> Result<Term, MakeFault>
-    requires limit { at ≤ 2048 }
+    requires limit { at ≤ depth_limit }
     requires above { k ≤ i }
     ensures ok { IfOk result (λ t. t ≡ stands_under env.now.items k i) }
     ensures within { IfOk result IsWithin }
@@ -226,7 +228,7 @@ pub(crate) fn read_above(
     k: u64,
     env: &Bindings,
 ) -> Result<Term, MakeFault>
-    requires limit { at ≤ 2048 }
+    requires limit { at ≤ depth_limit }
     ensures ok { IfOk result (λ out. out ≡ walk (stands_under env.now.items) k t.now) }
     ensures within { IfOk result IsWithin }
     ensures too_deep { IfErr result (λ e. e ≡ TooDeep → IsBeyondUnder at (walk (stands_under env.now.items) k t.now)) }
@@ -237,7 +239,7 @@ pub(crate) fn read_above(
     if env.is_empty() {
         return t.share();
     }
-    if at == 2048 {
+    if at == DEPTH_LIMIT {
         return Err(MakeFault::TooDeep);
     }
     let inner = at + 1;

@@ -4,7 +4,7 @@ use Rattle.std.proofs.lemmas.Bool.{eqb-true}
 use Rattle.universe_levels.specs.declared.sort.Sort.{Sort}
 use Rattle.universe_levels.specs.declared.sort.Sort.TheVariants.{Prop, Of}
 use Rattle.pc_terms.specs.declared.leaf.FamilyId.{FamilyId}
-use Rattle.pc_terms.specs.Syntax.{Term, Terms, Done, Next, Rel, SortT, Prod, Lambda, App, Const, Ind, Construct, Case, Fix, apply, head, args, number}
+use Rattle.pc_terms.specs.Syntax.{Term, Terms, Done, Next, Rel, SortT, Prod, Lambda, App, Const, Ind, Construct, Case, Fix, apply, head, args, number, list_of}
 use Rattle.pc_terms.specs.Formed.{binders_of, EachTerm, AreAll}
 use Rattle.calculus_rules.specs.declared.declaration.Constructor.{Constructor}
 use Rattle.calculus_rules.specs.declared.entry.Entry.TheVariants.{Assumed}
@@ -21,11 +21,11 @@ use Rattle.pc_rules.specs.DirectedRun as run
 use Rattle.pc_rules.specs.DirectedRun.{Run, done, too_nested, passing, any_beyond, ticked, bind, run_all}
 use Rattle.calculus_rules.specs.Lookups.{family_of}
 use Rattle.pc_rules.specs.DirectedWeakHead.{whnf}
-use Rattle.calculus_rules.specs.Listed.{list_of}
 use Rattle.pc_rules.specs.DirectedComparison.{Test, IsTest, sort_below, sorts_stand, Comparison, alike, each_equal, entering, branches_equal, matches_equal, lifted_types, fixpoints_equal, heads_equal, spines_equal, pair, entered, compare}
 use Rattle.pc_rules.specs.WellCounted.{arities, IsCounted, AreCounted, HasCountedDeclarations, AreCountedValues, IsCountedNode}
 use Rattle.pc_rules.proofs.WeakNext.{same_names_is, same_families_is, both_true}
 use Rattle.calculus_rules.proofs.Spines.{spine_is}
+use Rattle.calculus_rules.proofs.Listing.{first_same, rest_same}
 use Rattle.pc_rules.proofs.SameTrees.{same_is, same_numbers_is, false_true}
 use Rattle.calculus_rules.proofs.WeakHead.{weak_equal}
 use Rattle.pc_rules.proofs.FairReduction.{steps_lead}
@@ -47,22 +47,6 @@ list_long (Next n t ts) = ap suc (list_long ts)
 pub lifted_long : (n : ℕ) (Ts : List Term) → length (lifted_types n Ts) ≡ length Ts
 lifted_long n [] = refl
 lifted_long n (T ∷ Ts) = ap suc (lifted_long (suc n) Ts)
-
-first_of : List ℕ → ℕ
-first_of [] = 0
-first_of (n ∷ ns) = n
-
-rest_of : List ℕ → List ℕ
-rest_of [] = []
-rest_of (n ∷ ns) = ns
-
-pub first_same : {m n : ℕ} {ms ns : List ℕ} → m ∷ ms ≡ n ∷ ns → m ≡ n
-unfolding first_of
-first_same e = ap first_of e
-
-pub rest_same : {m n : ℕ} {ms ns : List ℕ} → m ∷ ms ≡ n ∷ ns → ms ≡ ns
-unfolding rest_of
-rest_same e = ap rest_of e
 
 pub no_suc : {A : Type 0} {n : ℕ} → suc n ≡ 0 → A
 no_suc e = absurd (omega arith)

@@ -1,10 +1,9 @@
 -- Well-counted terms stay so under renaming, substitution and application.
 use Rattle.std.proofs.Common.{◌≡◌, ℕ, zero, suc, ◌+◌, List, [], ◌∷◌, ◌++◌, Some, subst}
 use Rattle.trees.proofs.Shape.{each_renamed, before_renaming, each_substituted, first_each}
-use Rattle.pc_terms.specs.Syntax.{Term, Terms, Done, Next, Rel, App, ups, rename, substitute, shift, first, put, put_all, apply, head, args, term_at}
+use Rattle.pc_terms.specs.Syntax.{Term, Terms, Done, Next, Rel, App, ups, rename, substitute, shift, first, put, put_all, apply, head, args, term_at, list_of}
 use Rattle.pc_terms.specs.Formed.{EachTerm}
 use Rattle.calculus_rules.specs.Environment.{Env}
-use Rattle.calculus_rules.specs.Listed.{list_of}
 use Rattle.pc_rules.specs.WellCounted.{IsCounted, AreCounted, IsCountedNode}
 
 -- substitutions that put in well-counted terms

@@ -1,7 +1,7 @@
 -- An environment that the directed rules accept is well formed.
 use Rattle.std.proofs.Common.{◌≡◌, ◌≢◌, ℕ, suc, ◌==◌, ◌≤◌, Bool, true, false, if◌then◌else◌, nat_le, List, [], ◌∷◌, ◌++◌, map, reverse, append_assoc, append-nil, length, Option, Some, None, refl, sym, ap, ◌∙◌, subst, arith}
 use Rattle.std.specs.List.{All, AllPairs}
-use Rattle.std.proofs.lemmas.Bool.{leb-true, eq-eqb, or_parts}
+use Rattle.std.proofs.lemmas.Bool.{true≢false, leb-true, eq-eqb, or_parts}
 use Rattle.std.proofs.lemmas.Grind.{reverse_onto}
 use Rattle.std.proofs.lemmas.List.Elements.{All-nil, All-cons}
 use Rattle.std.proofs.lemmas.List.Kept.{AllPairs-cons}
@@ -30,13 +30,13 @@ use Rattle.pc_rules.specs.DirectedTyping.{infer, sort_of}
 use Rattle.pc_rules.specs.DirectedPlaces.{and_then}
 use Rattle.pc_rules.specs.DirectedDeclarations.{block_rule, body_rule, constant_rule, fresh_name, Given, GivenConstant, GivenBlock, declaration_rule, Outcome, Gives, Breaks, Accepts, accepts, Checked, placed_end, placed, has_level, first_repeated, undeclared_end, first_end, first_undeclared_end, declarations_rule, graph_rule, constraints_rule, levels_rule, environment_rule}
 use Rattle.pc_rules.specs.WellCounted.{IsCountedBody, HasCountedDeclarations}
+use Rattle.pc_rules.proofs.WeakNext.{none_some}
 use Rattle.rule_laws.specs.Declarations.{plain, plain_given, IsCheckedDeclaration, IsCheckedEnvironment, BodyFormed, GivenFormed, AllGivenFormed}
 use Rattle.rule_laws.proofs.Runs.{bind_both, refused_done, done_value}
 use Rattle.rule_laws.proofs.Comparing.{compare_sound}
-use Rattle.rule_laws.proofs.SimpleRules.{sort_sound, check_sound, some_none}
+use Rattle.rule_laws.proofs.SimpleRules.{sort_sound, check_sound}
 use Rattle.rule_laws.proofs.Inferring.{infer_sound}
 use Rattle.rule_laws.proofs.Extending.{fresh_is, env_more}
-use Rattle.rule_laws.proofs.Positive.{none_true}
 use Rattle.rule_laws.proofs.Blocks.{block_sound}
 
 -- a new name
@@ -175,7 +175,7 @@ module _ (levels : ℕ) (cs : List Constraint) (q : Test) (test : IsTest levels 
 -- levels and constraints
 
 other_level : (k l : Level) → (k.0 == l.0) ≡ false → k ≡ l → ⊥
-other_level k l h e = none_true (sym (eq-eqb k.0 l.0 (ap (λ n. n.0) e)) ∙ h)
+other_level k l h e = true≢false (sym (eq-eqb k.0 l.0 (ap (λ n. n.0) e)) ∙ h)
 
 abbrev Differs : Level → List Level → Type 0
 Differs k [] = Unit {0}
@@ -195,7 +195,7 @@ AreNew before ls = Distinct ls × ((k : Level) → Has before k → Differs k ls
 
 next_new : (i : ℕ) (before : List Level) (l : Level) (ls : List Level) (b : Bool) → has_level l before ≡ b → (first_repeated (suc i) (l ∷ before) ls ≡ None → AreNew (l ∷ before) ls) →
     (if b then Some (i, l) else first_repeated (suc i) (l ∷ before) ls) ≡ None → AreNew before (l ∷ ls)
-next_new i before l ls true e rec h = absurd (some_none h)
+next_new i before l ls true e rec h = absurd (none_some (sym h))
 next_new i before l ls false e rec h = let r = rec h in ((r.1 l here, r.0), λ k p. (has_none l before e k p, r.1 k (there p)))
 
 are_new : (i : ℕ) (before ls : List Level) → first_repeated i before ls ≡ None → AreNew before ls
@@ -216,12 +216,12 @@ distinct_levels ls h = all_pairs ls (are_new 0 [] ls h).0
 ends_declared : (n : ℕ) (c : Constraint) (a b : Bool) → nat_le c.left.0 n ≡ a → nat_le c.right.0 n ≡ b →
     (if a then (if b then None else Some c.right) else Some c.left) ≡ None → (c.left.0 ≤ n) × (c.right.0 ≤ n)
 ends_declared n c true true p q h = (leb-true c.left.0 n p, leb-true c.right.0 n q)
-ends_declared n c true false p q h = absurd (some_none h)
-ends_declared n c false b p q h = absurd (some_none h)
+ends_declared n c true false p q h = absurd (none_some (sym h))
+ends_declared n c false b p q h = absurd (none_some (sym h))
 
 both_none : (i : ℕ) (o : Option Level) (rest : Option (ℕ × Level)) → first_end i o rest ≡ None → (o ≡ None) × (rest ≡ None)
 both_none i None rest h = (refl, h)
-both_none i (Some l) rest h = absurd (some_none h)
+both_none i (Some l) rest h = absurd (none_some (sym h))
 
 pub are_over : (n i : ℕ) (cs : List Constraint) → first_undeclared_end n i cs ≡ None → AreOver n cs
 are_over n i [] h = All-nil (λ c. (c.left.0 ≤ n) × (c.right.0 ≤ n))

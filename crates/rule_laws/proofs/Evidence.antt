@@ -4,7 +4,7 @@ use Rattle.calculus_rules.specs.declared.declaration.Constructor.{Constructor}
 use Rattle.universe_levels.specs.declared.sort.Sort.{Sort}
 use Rattle.universe_levels.specs.declared.sort.Sort.TheVariants.{Prop, Of}
 use Rattle.pc_terms.specs.declared.leaf.FamilyId.{FamilyId}
-use Rattle.pc_terms.specs.Syntax.{Term, Terms, SortT, Prod, Construct, Case}
+use Rattle.pc_terms.specs.Syntax.{Term, Terms, SortT, Prod, Construct, Case, list_of}
 use Rattle.calculus_rules.specs.declared.entry.Entry.TheVariants.{Assumed}
 use Rattle.pc_rules.specs.declared.meter.Account.{Account}
 use Rattle.calculus_rules.specs.Environment.{Env, FamilyDecl, KeepsFamily}
@@ -20,7 +20,6 @@ use Rattle.pc_rules.specs.DirectedRun as run
 use Rattle.pc_rules.specs.DirectedRun.{Run, done, no_unit, passing, is_beyond, any_beyond, bind, ticked}
 use Rattle.calculus_rules.specs.Lookups.{family_of}
 use Rattle.pc_rules.specs.DirectedWeakHead.{weak_next}
-use Rattle.calculus_rules.specs.Listed.{list_of}
 use Rattle.pc_rules.specs.DirectedTyping.{Typing, sort_of}
 use Rattle.pc_rules.specs.DirectedErasable.{TypeEnding, ending_on, end_of, ends_in_sort, proof_found, arity_found, type_test, constructor_test, numbered_test, match_sort, match_test, erasable_test}
 use Rattle.calculus_rules.specs.PropSorts.{is_prop}

@@ -2,7 +2,7 @@
 use Rattle.std.proofs.Common.{◌≡◌, ℕ, zero, suc, ◌+◌, true, List, [], ◌∷◌, length, Option, Some, None, refl, sym, ap, ◌∙◌, subst, arith}
 use Rattle.trees.proofs.Shape.{each_renamed}
 use Rattle.pc_terms.specs.declared.leaf.FamilyId.{FamilyId}
-use Rattle.pc_terms.specs.Syntax.{Term, Terms, Done, Next, Lambda, Ind, Fix, shift, apply, head, args, term_at}
+use Rattle.pc_terms.specs.Syntax.{Term, Terms, Done, Next, Lambda, Ind, Fix, shift, apply, head, args, term_at, list_of}
 use Rattle.pc_terms.specs.Formed.{binders_of, EachTerm, AreAll, HasForm, IsFormed}
 use Rattle.calculus_rules.specs.declared.entry.Entry.TheVariants.{Assumed}
 use Rattle.pc_rules.specs.declared.broken.Broken.TheVariants.{RecArgNotInductive}
@@ -16,7 +16,6 @@ use Rattle.calculus_rules.specs.Typing.{guarded, Types, fix, Recurses, recurses_
 use Rattle.pc_rules.specs.DirectedRun as run
 use Rattle.pc_rules.specs.DirectedRun.{Run, done, make, bind}
 use Rattle.pc_rules.specs.DirectedWeakHead.{whnf}
-use Rattle.calculus_rules.specs.Listed.{list_of}
 use Rattle.pc_rules.specs.DirectedComparison.{Comparison}
 use Rattle.pc_rules.specs.DirectedGuard.{fix_guard}
 use Rattle.pc_rules.specs.DirectedTyping.{Typing, sort_of, check, types_rule, recursive_domain, enough_abstractions, is_a_family, family_found, definition_rule, definitions_rule, definition_type, fix_rule}

@@ -24,7 +24,8 @@ use Rattle.pc_rules.specs.FixConditions.{BeginsWith, HaveLambdas}
 use Rattle.pc_rules.specs.WellCounted.{IsCountedNode, arities, IsCounted, AreCounted, HasCountedDeclarations, AreCountedValues}
 use Rattle.rule_laws.proofs.Runs.{bind_both, ticking_done, refused_done, unit_done, done_value, pass_then, run_both}
 use Rattle.rule_laws.proofs.KeepCounts.{under_counted, steps_counted}
-use Rattle.rule_laws.proofs.Comparing.{first_same, rest_same, whnf_equal, whnf_counted, no_cons}
+use Rattle.calculus_rules.proofs.Listing.{first_same, rest_same}
+use Rattle.rule_laws.proofs.Comparing.{whnf_equal, whnf_counted, no_cons}
 
 -- all acts of a list are done
 abbrev EachDone : List Act → Type 0

@@ -5,7 +5,7 @@ use Rattle.universe_levels.specs.declared.level.LevelExpr.{LevelExpr}
 use Rattle.universe_levels.specs.declared.sort.Sort.{Sort}
 use Rattle.universe_levels.specs.declared.sort.Sort.TheVariants.{Prop, Of}
 use Rattle.pc_terms.specs.declared.leaf.FamilyId.{FamilyId}
-use Rattle.pc_terms.specs.Syntax.{Term, Terms, Done, Next, Rel, SortT, Ind, Case, first, substitute, apply, head, args, number, terms_of}
+use Rattle.pc_terms.specs.Syntax.{Term, Terms, Done, Next, Rel, SortT, Ind, Case, first, substitute, apply, head, args, number, terms_of, list_of}
 use Rattle.pc_terms.specs.Formed.{binders_of, EachTerm, AreAll, HasForm, IsFormed}
 use Rattle.calculus_rules.specs.declared.declaration.Constructor.{Constructor}
 use Rattle.calculus_rules.specs.declared.declaration.Family.{Family}
@@ -25,7 +25,6 @@ use Rattle.pc_rules.specs.DirectedRun as run
 use Rattle.pc_rules.specs.DirectedRun.{Run, done, make, passing, any_beyond, bind}
 use Rattle.calculus_rules.specs.Lookups.{if_some, kept_at, whole_block, family_of}
 use Rattle.pc_rules.specs.DirectedWeakHead.{whnf}
-use Rattle.calculus_rules.specs.Listed.{list_of}
 use Rattle.pc_rules.specs.DirectedComparison.{Comparison}
 use Rattle.pc_rules.specs.DirectedTyping.{Typing, conv, sort_of, check, retype, find_family, counted, names_counted, match_counted, check_all, sorts_of, all_prop, few_constructors, is_single, may_eliminate, eliminated, is_the_family, found_family, scrutinee_fits, scrutinee_rule, branch_beyond, branch_rule, branches_rule, predicate_rule, case_rule}
 use Rattle.pc_rules.specs.WellCounted.{IsCountedNode, arities, IsCounted, AreCounted, AreCountedConstructors, HasCountedDeclarations, IsCountedContext}
@@ -36,7 +35,8 @@ use Rattle.rule_laws.proofs.Runs.{bind_both, if_done, tested, done_value, make_t
 use Rattle.rule_laws.proofs.Counted.{PutsCounted, rel_counted, first_counted, substituted_counted, apply_counted, appended_counted, args_counted, terms_counted}
 use Rattle.rule_laws.proofs.KeepCounts.{IsCountedFamilyDecl, values_counted, kept_counted}
 use Rattle.rule_laws.proofs.CountedParts.{ind_counted, predicate_entries_counted, branch_entries_counted, predicate_at_counted, branch_type_counted, context_extended}
-use Rattle.rule_laws.proofs.Comparing.{IsSound, names_long, list_long, first_same, rest_same, whnf_equal, whnf_counted, no_suc}
+use Rattle.calculus_rules.proofs.Listing.{first_same, rest_same}
+use Rattle.rule_laws.proofs.Comparing.{IsSound, names_long, list_long, whnf_equal, whnf_counted, no_suc}
 use Rattle.rule_laws.proofs.SimpleRules.{Infers, formed, whole_family, sort_sound, retype_sound, check_sound}
 
 pub all_formed : (E : Env) (ts : List Term) → AreCounted E ts → AllFormed ts

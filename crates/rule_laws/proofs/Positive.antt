@@ -1,6 +1,6 @@
 -- What the test of positivity lets pass is positive.
 use Rattle.std.proofs.Common.{◌≡◌, ℕ, zero, suc, ◌+◌, ◌<◌, ◌≤◌, ◌==◌, not, ◌⊎◌, inl, inr, Bool, true, false, if◌then◌else◌, nat_lt, nat_le, List, [], ◌∷◌, ◌++◌, length, take, drop, Option, Some, None, refl, sym, ap, ◌∙◌, subst, arith}
-use Rattle.std.proofs.lemmas.Bool.{eq-eqb, not-true, ltb-true, leb-true, eqb-true, or_from}
+use Rattle.std.proofs.lemmas.Bool.{true≢false, eq-eqb, not-true, ltb-true, leb-true, eqb-true, or_from}
 use Rattle.pc_terms.specs.declared.leaf.Name.{Name}
 use Rattle.pc_terms.specs.declared.leaf.FamilyId.{FamilyId}
 use Rattle.pc_terms.specs.Syntax.{Term, Rel, SortT, Prod, Lambda, LetIn, App, Const, Ind, Construct, Case, Fix, apply, head, args}
@@ -25,18 +25,15 @@ use Rattle.calculus_rules.proofs.Spines.{spine_is}
 use Rattle.pc_rules.proofs.SameTrees.{false_true}
 use Rattle.rule_laws.proofs.Runs.{bind_both, ticking_done, unit_done, done_value}
 
-pub none_true : {A : Type 0} → true ≡ false → A
-none_true e = absurd (cc)
-
 pub other_name : (k l : Name) → same_names k l ≡ false → k ≡ l → ⊥
-other_name k l h e = none_true (sym (eq-eqb k.0 l.0 (ap (λ n. n.0) e)) ∙ h)
+other_name k l h e = true≢false (sym (eq-eqb k.0 l.0 (ap (λ n. n.0) e)) ∙ h)
 
 -- a test that says yes
 abbrev Yes : Run Bool → Type 0
 Yes r = (v : Account) × (r.end ≡ run.Done true v)
 
 not_no : {A : Type 0} (u v : Account) → (done false u).end ≡ run.Done true v → A
-not_no u v h = none_true (sym (done_value h))
+not_no u v h = absurd (true≢false (sym (done_value h)))
 
 second_yes : (b : Bool) (k : Account → Run Bool) (u v : Account) → (if b then k u else done false u).end ≡ run.Done true v → (b ≡ true) × ((k u).end ≡ run.Done true v)
 second_yes true k u v h = (refl, h)

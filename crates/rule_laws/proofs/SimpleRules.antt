@@ -1,5 +1,5 @@
 -- Rules 1 to 9 and 12 of inference give types.
-use Rattle.std.proofs.Common.{◌≡◌, ℕ, ◌≤◌, inl, inr, Bool, true, false, if◌then◌else◌, List, [], ◌∷◌, Option, Some, None, refl, ap, subst, slice_get, nat_le}
+use Rattle.std.proofs.Common.{◌≡◌, ℕ, ◌≤◌, inl, inr, Bool, true, false, if◌then◌else◌, List, [], ◌∷◌, Option, Some, None, refl, sym, ap, subst, slice_get, nat_le}
 use Rattle.std.proofs.lemmas.Bool.{leb-true}
 use Rattle.std.proofs.lemmas.List.Elements.{All-nil, All-cons}
 use Rattle.universe_levels.specs.declared.level.Level.{Level}
@@ -34,7 +34,7 @@ use Rattle.pc_rules.specs.DirectedComparison.{Comparison}
 use Rattle.pc_rules.specs.DirectedTyping.{Typing, conv, sort_found, sort_of, check, retype, rel_rule, first_undeclared, undeclared_in, raises_past, levels_declared, sort_rule, prod_rule, lambda_rule, let_rule, app_found, app_rule, const_rule, family_number, find_family, ind_rule, constructor_number, construct_rule}
 use Rattle.pc_rules.specs.WellCounted.{IsCountedNode, IsCounted, HasCountedDeclarations, IsCountedContext}
 use Rattle.pc_rules.proofs.SameTrees.{same_is}
-use Rattle.pc_rules.proofs.WeakNext.{kept_is, family_found}
+use Rattle.pc_rules.proofs.WeakNext.{none_some, kept_is, family_found}
 use Rattle.rule_laws.specs.Inference.{IsInferred}
 use Rattle.rule_laws.proofs.Runs.{bind_both, if_done, refused_done, done_value}
 use Rattle.rule_laws.proofs.Counted.{put_counted, substituted_counted, app_counted}
@@ -62,13 +62,10 @@ declared_from : (o : Option Level) (u v : Account) → (levels_declared o u).end
 declared_from None u v h = refl
 declared_from (Some l) u v h = absurd (refused_done h)
 
-pub some_none : {A : Type 0} {x : A} → Some x ≡ None → ⊥
-some_none e = cc
-
 next_declared : (n : ℕ) (e : LevelExpr) (es : List LevelExpr) (b : Bool) → nat_le e.level.0 n ≡ b → (if b then first_undeclared n es else Some e.level) ≡ None →
     (first_undeclared n es ≡ None → IsOver n es) → IsOver n (e ∷ es)
 next_declared n e es true p h rec = All-cons (λ e. e.level.0 ≤ n) e es (leb-true e.level.0 n p) (rec h)
-next_declared n e es false p h rec = absurd (some_none h)
+next_declared n e es false p h rec = absurd (none_some (sym h))
 
 first_declared : (n : ℕ) (es : List LevelExpr) → first_undeclared n es ≡ None → IsOver n es
 first_declared n [] h = All-nil (λ e. e.level.0 ≤ n)
@@ -79,7 +76,7 @@ no_cons e = cc
 
 pub levels_are_declared : (E : Env) (s : Sort) (u v : Account) → (levels_declared (undeclared_in E.levels s) u).end ≡ run.Done tt v → IsDeclared E s
 levels_are_declared E Prop u v h = tt
-levels_are_declared E (Of []) u v h = absurd (some_none (declared_from (undeclared_in E.levels (Of [])) u v h))
+levels_are_declared E (Of []) u v h = absurd (none_some (sym (declared_from (undeclared_in E.levels (Of [])) u v h)))
 levels_are_declared E (Of (e ∷ es)) u v h = (no_cons, first_declared E.levels (e ∷ es) (declared_from (undeclared_in E.levels (Of (e ∷ es))) u v h))
 
 -- families and constructors that are found

@@ -15,6 +15,7 @@ use Rattle.universe_levels.specs.declared.sort.Sort.{Sort}
 use Rattle.pc_terms.specs.declared.leaf.FamilyId.{FamilyId}
 use Rattle.pc_terms.specs.Syntax.{Term, Terms, Done, Next, terms_of, term_at, number}
 use Rattle.pc_terms.specs.Formed.{binders_of, EachTerm, AreAll}
+use Rattle.pc_terms.proofs.Forms.{terms_of-closed}
 use Rattle.calculus_rules.specs.declared.declaration.Constructor.{Constructor}
 use Rattle.calculus_rules.specs.declared.declaration.Family.{Family}
 use Rattle.calculus_rules.specs.declared.declaration.Block.{Block}
@@ -33,10 +34,6 @@ use Rattle.rule_laws.proofs.Comparing.{names_long}
 use Rattle.rule_laws.proofs.Extending.{all_more, finds_without, env_more}
 use Rattle.rule_laws.proofs.Environments.{nothing_counted}
 use Rattle.pc_rules.proofs.WeakNext.{none_some}
-
-list_names : (ts : List Term) → AreAll 0 (binders_of (terms_of ts))
-list_names [] = tt
-list_names (t ∷ ts) = (refl, list_names ts)
 
 names_of_list : (ts : List Term) → length (binders_of (terms_of ts)) ≡ length ts
 names_of_list [] = refl
@@ -81,7 +78,7 @@ module _ (E : Env) (once : HasNamesOnce E) where
     typed_counted (case {f = f} {F = F} ps is k e l p es q may s bs) =
         let a = terms_counted p in
         let b = branches_counted bs in (
-          ((list_names ps, tt), (F, family_once E once f F k, names_of_list ps ∙ a.long, e, b.names)),
+          ((terms_of-closed ps, tt), (F, family_once E once f F k, names_of_list ps ∙ a.long, e, b.names)),
           (a.each, (typed_counted q, (typed_counted s, (b.all, tt)))),
         )
     typed_counted (fix {i = i} {rargs = rargs} {types = types} e h p b ask) =

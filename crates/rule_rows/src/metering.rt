@@ -1,7 +1,7 @@
 //! The meter: `meter`.
 ghost use Rattle.std.specs.Prelude.{◌≤◌, IfSome};
 
-use pc_rules::meter::Meter;
+use pc_rules::meter::{MOST_NESTED, Meter};
 use row_files::{Case, Fault};
 use std::alloc::AllocError;
 
@@ -61,7 +61,7 @@ fn put_uses(out: &mut String, m: &Meter, number: u32) -> Result<(), AllocError> 
 
 /// Leaves a rule, if one stands.
 fn put_left(out: &mut String, m: &mut Meter) -> Result<(), AllocError> {
-    if m.room() < 2048 {
+    if m.room() < MOST_NESTED {
         m.leave();
     }
     let room = m.room();

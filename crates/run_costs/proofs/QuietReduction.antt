@@ -1,7 +1,7 @@
 -- What weak-head reduction and comparison take depends on no account.
 use Rattle.std.proofs.Common.{◌≡◌, ◌<◌, ◌≤◌, arith, ℕ, zero, suc, ◌==◌, ◌&&◌, Bool, true, List, [], ◌∷◌, length, Option, Some, None, refl}
 use Rattle.pc_terms.specs.declared.leaf.FamilyId.{FamilyId}
-use Rattle.pc_terms.specs.Syntax.{Term, Terms, SortT, Prod, Lambda, Case, Fix, head, args}
+use Rattle.pc_terms.specs.Syntax.{Term, Terms, SortT, Prod, Lambda, Case, Fix, head, args, list_of}
 use Rattle.calculus_rules.specs.declared.declaration.Constructor.{Constructor}
 use Rattle.calculus_rules.specs.declared.entry.Entry.TheVariants.{Assumed}
 use Rattle.pc_rules.specs.declared.broken.Broken.TheVariants.{NotBelow, UnknownName}
@@ -14,7 +14,6 @@ use Rattle.calculus_rules.specs.Same.{same}
 use Rattle.pc_rules.specs.DirectedRun.{Run, NoUnit, Act, done, ticked, any_beyond, run_all}
 use Rattle.calculus_rules.specs.Lookups.{family_of}
 use Rattle.pc_rules.specs.DirectedWeakHead.{weak_next, after_step, stuck_step, steps, whnf}
-use Rattle.calculus_rules.specs.Listed.{list_of}
 use Rattle.pc_rules.specs.DirectedComparison.{Test, Comparison, sorts_stand, alike, each_equal, entering, branches_equal, matches_equal, lifted_types, fixpoints_equal, heads_equal, spines_equal, pair, entered, compare}
 use Rattle.run_costs.proofs.Quiet.{Falls, Again, IsQuiet, AreQuiet, no_act, an_act, quiet_done, quiet_refused, quiet_passing, quiet_nested, quiet_if, quiet_bind, quiet_ticking, quiet_all, falls_ticked, again_ticked}
 

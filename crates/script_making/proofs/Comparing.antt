@@ -1,7 +1,7 @@
 -- What a comparison that writes makes at its start, and in lists.
 use Rattle.std.proofs.Common.{◌≡◌, sym, refl, ℕ, zero, suc, ◌<◌, ◌≤◌, ◌-◌, ◌+◌, ◌==◌, ◌&&◌, min, ◌⊎◌, inl, inr, Result, Ok, Err, IsTrue, Bool, true, false, if◌then◌else◌, List, [], ◌∷◌, length, drop, get_or, Option, Some, None, subst, arith}
 use Rattle.trees.specs.Tree.{terms_of}
-use Rattle.pc_terms.specs.Syntax.{Term, head, args}
+use Rattle.pc_terms.specs.Syntax.{Term, head, args, list_of}
 use Rattle.pc_terms.specs.Lists.{arms_of}
 use Rattle.pc_terms.specs.declared.term.Branch.{Branch}
 use Rattle.pc_terms.specs.declared.term.Match.{Match}
@@ -13,7 +13,6 @@ use Rattle.calculus_rules.specs.Environment.{Env, FamilyDecl}
 use Rattle.calculus_rules.specs.Context.{Context, values, extend}
 use Rattle.calculus_rules.specs.Instances.{predicate_entries, branch_entries}
 use Rattle.calculus_rules.specs.Lookups.{family_of}
-use Rattle.calculus_rules.specs.Listed.{list_of}
 use Rattle.calculus_rules.proofs.Listing.{listed}
 use Rattle.pc_rules.specs.declared.broken.Broken.{Broken}
 use Rattle.pc_rules.specs.declared.broken.Broken.TheVariants.{NotBelow, UnknownName}

@@ -2,7 +2,7 @@
 use Rattle.std.specs.Prelude.{ℕ, Bool, true, if◌then◌else◌, List, ◌∷◌, length}
 use Rattle.universe_levels.specs.declared.sort.Sort.{Sort}
 use Rattle.trees.specs.Tree.{terms_of}
-use Rattle.pc_terms.specs.Syntax.{Term}
+use Rattle.pc_terms.specs.Syntax.{Term, list_of}
 use Rattle.pc_terms.specs.Lists.{arms_of, types_of, bodies_of}
 use Rattle.pc_terms.specs.declared.term.Def.{Def}
 use Rattle.pc_terms.specs.declared.term.Match.{Match}
@@ -12,7 +12,6 @@ use Rattle.calculus_rules.specs.declared.entry.Entry.TheVariants.{Assumed}
 use Rattle.calculus_rules.specs.Environment.{Env, with_parameters}
 use Rattle.calculus_rules.specs.Context.{Context}
 use Rattle.calculus_rules.specs.Instances.{predicate_entries}
-use Rattle.calculus_rules.specs.Listed.{list_of}
 use Rattle.calculus_rules.specs.Lookups.{family_of}
 use Rattle.pc_rules.specs.declared.broken.Broken.TheVariants.{NotBelow}
 use Rattle.pc_rules.specs.declared.broken.Clash.TheVariants.{Sorts as ClashOfSorts}

@@ -3,6 +3,7 @@ ghost use Rattle.std.specs.Prelude.{◌≡◌, ◌+◌, [], ◌∷◌};
 ghost use Rattle.universe_levels.specs.Consistency.{AreOver, IsSortOver};
 ghost use Rattle.calculus_rules.specs.declared.entry.Entry.TheVariants.{Assumed};
 ghost use Rattle.calculus_rules.specs.Context.{values};
+ghost use Rattle.pc_rules.specs.DirectedRun.{most_nested};
 ghost use Rattle.conversion.specs.Comparable.{AreComparable};
 ghost use Rattle.conversion.specs.Modes.{is_equal};
 ghost use Rattle.script_making.specs.Makes.{Makes};
@@ -52,7 +53,7 @@ impl<R: Reducer> Maker<'_, R> {
         b: &Term,
         draft: &mut Draft,
     ) -> Result<(), Halt>
-        requires nest { self.now.room + draft.old.meter.nest ≡ 2048 }
+        requires nest { self.now.room + draft.old.meter.nest ≡ most_nested }
         requires comparable { AreComparable self.now.env.now (values ctx.now) (a.now ∷ []) (b.now ∷ []) }
         ensures makes { Makes (compare_making self.now.env.now self.now.room ctx.now (is_equal mode) a.now b.now draft.old.meter.account) result draft.old draft.new }
     {
@@ -83,7 +84,7 @@ impl<R: Reducer> Maker<'_, R> {
         b: &Term,
         draft: &mut Draft,
     ) -> Result<(), Halt>
-        requires nest { self.now.room + draft.old.meter.nest ≡ 2048 }
+        requires nest { self.now.room + draft.old.meter.nest ≡ most_nested }
         requires comparable { AreComparable self.now.env.now (values ctx.now) (a.now ∷ []) (b.now ∷ []) }
         ensures makes { Makes (entered_making self.now.env.now self.now.room ctx.now (is_equal mode) a.now b.now draft.old.meter.account) result draft.old draft.new }
     {
@@ -106,7 +107,7 @@ impl<R: Reducer> Maker<'_, R> {
         b: &Term,
         draft: &mut Draft,
     ) -> Result<(), Halt>
-        requires nest { self.now.room + draft.old.meter.nest ≡ 2048 }
+        requires nest { self.now.room + draft.old.meter.nest ≡ most_nested }
         requires comparable { AreComparable self.now.env.now (values ctx.now) (a.now ∷ []) (b.now ∷ []) }
         ensures makes { Makes (pair_making self.now.env.now self.now.room ctx.now (is_equal mode) a.now b.now draft.old.meter.account) result draft.old draft.new }
     {
@@ -135,7 +136,7 @@ impl<R: Reducer> Maker<'_, R> {
         target: &Term,
         draft: &mut Draft,
     ) -> Result<(), Halt>
-        requires nest { self.now.room + draft.old.meter.nest ≡ 2048 }
+        requires nest { self.now.room + draft.old.meter.nest ≡ most_nested }
         requires domains { AreComparable self.now.env.now (values ctx.now) (domain.now ∷ []) (other.now ∷ []) }
         requires bodies { AreComparable self.now.env.now (values (Assumed domain.now ∷ ctx.now)) (body.now ∷ []) (target.now ∷ []) }
         ensures makes { Makes (bound_making self.now.env.now self.now.room ctx.now (is_equal mode) domain.now body.now other.now target.now draft.old.meter.account) result draft.old draft.new }

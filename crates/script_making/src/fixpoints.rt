@@ -1,8 +1,9 @@
 //! Fixpoints: the types of their definitions, then the bodies.
 ghost use Rattle.std.specs.Prelude.{◌≡◌, ◌+◌, length};
 ghost use Rattle.pc_terms.specs.Lists.{types_of, bodies_of};
+ghost use Rattle.pc_terms.specs.Syntax.{list_of};
 ghost use Rattle.calculus_rules.specs.Context.{values};
-ghost use Rattle.calculus_rules.specs.Listed.{list_of};
+ghost use Rattle.pc_rules.specs.DirectedRun.{most_nested};
 ghost use Rattle.conversion.specs.Comparable.{AreComparable};
 ghost use Rattle.script_making.specs.Makes.{Makes};
 ghost use Rattle.script_making.specs.Comparing.{fixpoints_making, fix_bodies_making};
@@ -29,7 +30,7 @@ impl<R: Reducer> Maker<'_, R> {
         es: &Defs,
         draft: &mut Draft,
     ) -> Result<(), Halt>
-        requires nest { self.now.room + draft.old.meter.nest ≡ 2048 }
+        requires nest { self.now.room + draft.old.meter.nest ≡ most_nested }
         requires types { AreComparable self.now.env.now (values ctx.now) (list_of (types_of ds.now)) (list_of (types_of es.now)) }
         requires bodies { AreComparable self.now.env.now (values ctx.now) (list_of (bodies_of (length ds.now) ds.now)) (list_of (bodies_of (length es.now) es.now)) }
         ensures makes { Makes (fixpoints_making self.now.env.now self.now.room ctx.now ds.now es.now draft.old.meter.account) result draft.old draft.new }
@@ -51,7 +52,7 @@ impl<R: Reducer> Maker<'_, R> {
         es: &Defs,
         draft: &mut Draft,
     ) -> Result<(), Halt>
-        requires nest { self.now.room + draft.old.meter.nest ≡ 2048 }
+        requires nest { self.now.room + draft.old.meter.nest ≡ most_nested }
         requires bodies { AreComparable self.now.env.now (values ctx.now) (list_of (bodies_of (length ds.now) ds.now)) (list_of (bodies_of (length es.now) es.now)) }
         ensures makes { Makes (fix_bodies_making self.now.env.now self.now.room ctx.now ds.now es.now draft.old.meter.account) result draft.old draft.new }
     {

@@ -4,6 +4,7 @@ ghost use Rattle.pc_terms.specs.Syntax.{Term};
 ghost use Rattle.pc_terms.specs.View.{tree_of};
 ghost use Rattle.pc_terms.specs.declared.term.Node.TheVariants.{Case};
 ghost use Rattle.calculus_rules.specs.Context.{values};
+ghost use Rattle.pc_rules.specs.DirectedRun.{most_nested};
 ghost use Rattle.conversion.specs.Comparable.{AreComparable};
 ghost use Rattle.script_making.specs.Makes.{Makes};
 ghost use Rattle.script_making.specs.Comparing.{matches_making, predicates_making, branch_bodies_making, under_making};
@@ -36,7 +37,7 @@ impl<R: Reducer> Maker<'_, R> {
         y: &Match,
         draft: &mut Draft,
     ) -> Result<(), Halt>
-        requires nest { self.now.room + draft.old.meter.nest ≡ 2048 }
+        requires nest { self.now.room + draft.old.meter.nest ≡ most_nested }
         requires comparable { AreComparable self.now.env.now (values ctx.now) (tree_of (Case x.now) ∷ []) (tree_of (Case y.now) ∷ []) }
         ensures makes { Makes (matches_making self.now.env.now self.now.room ctx.now x.now y.now draft.old.meter.account) result draft.old draft.new }
     {
@@ -63,7 +64,7 @@ impl<R: Reducer> Maker<'_, R> {
         y: &Match,
         draft: &mut Draft,
     ) -> Result<(), Halt>
-        requires nest { self.now.room + draft.old.meter.nest ≡ 2048 }
+        requires nest { self.now.room + draft.old.meter.nest ≡ most_nested }
         requires comparable { AreComparable self.now.env.now (values ctx.now) (tree_of (Case x.now) ∷ []) (tree_of (Case y.now) ∷ []) }
         ensures makes { (Ps : List Term) → Makes (predicates_making self.now.env.now self.now.room ctx.now Ps family.now x.now y.now draft.old.meter.account) result draft.old draft.new }
     {
@@ -82,7 +83,7 @@ impl<R: Reducer> Maker<'_, R> {
         y: &Match,
         draft: &mut Draft,
     ) -> Result<(), Halt>
-        requires nest { self.now.room + draft.old.meter.nest ≡ 2048 }
+        requires nest { self.now.room + draft.old.meter.nest ≡ most_nested }
         requires comparable { AreComparable self.now.env.now (values ctx.now) (tree_of (Case x.now) ∷ []) (tree_of (Case y.now) ∷ []) }
         ensures makes { Makes (branch_bodies_making self.now.env.now self.now.room ctx.now ctors.now x.now y.now draft.old.meter.account) result draft.old draft.new }
     {
@@ -110,7 +111,7 @@ impl<R: Reducer> Maker<'_, R> {
         b: &Term,
         draft: &mut Draft,
     ) -> Result<(), Halt>
-        requires nest { self.now.room + draft.old.meter.nest ≡ 2048 }
+        requires nest { self.now.room + draft.old.meter.nest ≡ most_nested }
         requires comparable { AreComparable self.now.env.now (values ctx.now) (a.now ∷ []) (b.now ∷ []) }
         ensures makes { Makes (under_making self.now.env.now self.now.room ctx.now entries.now a.now b.now draft.old.meter.account) result draft.old draft.new }
     {

@@ -2,6 +2,7 @@
 ghost use Rattle.std.specs.Prelude.{◌≡◌, ◌+◌, [], ◌∷◌, length, List};
 ghost use Rattle.pc_terms.specs.Syntax.{Term};
 ghost use Rattle.calculus_rules.specs.Context.{values};
+ghost use Rattle.pc_rules.specs.DirectedRun.{most_nested};
 ghost use Rattle.cert_rules.specs.Writing.{noting_all};
 ghost use Rattle.cert_rules.specs.MakingTyping.{part_items};
 ghost use Rattle.conversion.specs.Comparable.{AreComparable};
@@ -42,7 +43,7 @@ impl<R: Reducer> Maker<'_, R> {
         b: &Term,
         draft: &mut Draft,
     ) -> Result<(), Halt>
-        requires nest { self.now.room + draft.old.meter.nest ≡ 2048 }
+        requires nest { self.now.room + draft.old.meter.nest ≡ most_nested }
         requires comparable { AreComparable self.now.env.now (values ctx.now) (a.now ∷ []) (b.now ∷ []) }
         ensures makes { Makes (spines_making self.now.env.now self.now.room ctx.now a.now b.now draft.old.meter.account) result draft.old draft.new }
     {
@@ -67,7 +68,7 @@ impl<R: Reducer> Maker<'_, R> {
         b: &Term,
         draft: &mut Draft,
     ) -> Result<(), Halt>
-        requires nest { self.now.room + draft.old.meter.nest ≡ 2048 }
+        requires nest { self.now.room + draft.old.meter.nest ≡ most_nested }
         requires comparable { AreComparable self.now.env.now (values ctx.now) (a.now ∷ []) (b.now ∷ []) }
         ensures makes { Makes (heads_making self.now.env.now self.now.room ctx.now a.now b.now draft.old.meter.account) result draft.old draft.new }
     {
@@ -88,7 +89,7 @@ impl<R: Reducer> Maker<'_, R> {
         us: &Terms,
         draft: &mut Draft,
     ) -> Result<(), Halt>
-        requires nest { self.now.room + draft.old.meter.nest ≡ 2048 }
+        requires nest { self.now.room + draft.old.meter.nest ≡ most_nested }
         requires comparable { AreComparable self.now.env.now (values ctx.now) ts.now us.now }
         ensures makes { Makes (each_making self.now.env.now self.now.room ctx.now ts.now us.now draft.old.meter.account) result draft.old draft.new }
     {

@@ -2,6 +2,7 @@
 use Rattle.std.proofs.Common.{◌≡◌, ℕ, zero, suc, ◌+◌, ◌≤◌, Bool, true, false, ◌&&◌, ◌||◌, List, [], length, map, Option, Some, None, refl, sym, ap, ◌∙◌, arith}
 use Rattle.std.specs.Prelude.{nat_eq, if◌then◌else◌}
 use Rattle.std.proofs.lemmas.Bool.{eq-eqb, and_parts}
+use Rattle.std.proofs.Math.Bool.{and-true}
 use Rattle.trees.specs.Tree.{Rel, Done, Next}
 use Rattle.trees.specs.Measures.{depth, depth_trees}
 use Rattle.trees.specs.Closed.{Closed, ClosedTerms}
@@ -19,7 +20,6 @@ use Rattle.shrink_passes.specs.DropParams.{is_spine, is_box, fits, fits_terms, c
 use Rattle.shrink_passes.specs.DeadPlaces.{spine, box_there, is_reached, noted}
 use Rattle.shrink_passes.specs.Pruned.{is_dropped, pruned, pruned_terms}
 use Rattle.shrink_passes.proofs.RunShapes.{box_is_box}
-use Rattle.shrink_passes.proofs.Flagging.{and_true}
 use Rattle.shrink_passes.proofs.Mapped.{fix_mapped, case_mapped}
 use Rattle.shrink_passes.proofs.Noted.{fits_noted}
 use Rattle.shrink_passes.proofs.UnusedPlaces.{unused_past}
@@ -294,7 +294,7 @@ module _ (D : ℕ → ℕ → Bool) where
               noted k P (if z then pruned D f else BApp (pruned D f) (pruned D a)) ≡ (noted k q f && (box_there k q (spine f) a && fits k q [] a))
           either true d b x y =
               let box : (box_there k q (spine f) a && fits k q [] a) ≡ true = ap (λ u. box_there k q (spine f) u && fits k q [] u) (b refl) ∙ ap (λ z. z && true) (box_there_box (spine f)) in
-              x ∙ sym (ap (λ z. noted k q f && z) box ∙ and_true (noted k q f))
+              x ∙ sym (ap (λ z. noted k q f && z) box ∙ and-true (noted k q f))
           either false d b x y =
               λ i. x i && ((ap (λ u. box_there k P u (pruned D a)) (spine_pruned D f) ∙ box_shorter D k q out (spine f) (pruned D a) a (pruned_box a) d) i && y i)
       noted_pruned (BConst c) h = refl

@@ -1,7 +1,7 @@
 -- The decisions of inlining, made of the program as it stands, are those that one walk of the program at the start allows.
 use Rattle.std.proofs.Common.{◌≡◌, ℕ, zero, suc, ◌+◌, ◌*◌, ◌≤◌, max, Bool, true, false, ◌&&◌, List, [], ◌∷◌, Option, Some, None, ◌++◌, append_assoc, refl, sym, ap, ◌∙◌, subst, arith, ◌⊎◌, inl, inr, ⊎_elim}
 use Rattle.std.specs.Prelude.{nat_eq, nat_le, if◌then◌else◌, reverse}
-use Rattle.std.proofs.lemmas.Bool.{eq-eqb}
+use Rattle.std.proofs.lemmas.Bool.{eq-eqb, le-leb, leb-true}
 use Rattle.std.proofs.lemmas.List.{reverse-reverse, reverse-append, append-nil}
 use Rattle.trees.specs.Measures.{depth}
 use Rattle.box_terms.specs.BoxSyntax.{BoxTerm}
@@ -21,19 +21,13 @@ use Rattle.shrink_passes.proofs.Forming.{body_unused, done_unused, Later, later,
 abbrev pub level_program : ℕ → BoxProgram → ℕ
 level_program k P = max (greatest (level k 0) P.constants) (level k 0 P.main)
 
-le_true : (a b : ℕ) → a ≤ b → nat_le a b ≡ true
-le_true a b l = grind (arith, l)
-
-pub true_le : (a b : ℕ) → nat_le a b ≡ true → a ≤ b
-true_le a b e = grind (arith, e)
-
 same_order : (a b c d : ℕ) → (a ≤ b → c ≤ d) → (c ≤ d → a ≤ b) → nat_le a b ≡ nat_le c d
 same_order a b c d f g = go (nat_le a b) (nat_le c d) refl refl
   where
     go : (x y : Bool) → nat_le a b ≡ x → nat_le c d ≡ y → x ≡ y
     go true true e h = refl
-    go true false e h = sym (sym h ∙ le_true c d (f (true_le a b e)))
-    go false true e h = sym e ∙ le_true a b (g (true_le c d h))
+    go true false e h = sym (sym h ∙ le-leb c d (f (leb-true a b e)))
+    go false true e h = sym e ∙ le-leb a b (g (leb-true c d h))
     go false false e h = refl
 
 none_unused_levels : (k : ℕ) (ds : List BoxConstant) → total (uses k) ds ≡ 0 → greatest (level k 0) ds ≡ 0
@@ -151,7 +145,7 @@ module _ (Fs : List BoxFamily) (done : List BoxConstant) (f : BoxTerm → BoxTer
       where
         go : (s : Option Sight) → Shows s (uses_program k now) (level_program k now) → is_once (deepest now) (depth b) s ≡ true → deepest next ≡ deepest now
         go None h e = absurd (cc)
-        go (Some (Once x)) h e = omega (arith, next_deeper h.0, fitting (omega (arith, h.1, true_le (x + depth b) (deepest now) e)))
+        go (Some (Once x)) h e = omega (arith, next_deeper h.0, fitting (omega (arith, h.1, leb-true (x + depth b) (deepest now) e)))
         go (Some Often) h e = absurd (cc)
 
 -- of each constant to come the table shows how the program as it stands uses it

@@ -2,7 +2,7 @@
 -- the lambda gives before.
 use Rattle.std.proofs.Common.{◌≡◌, ℕ, zero, suc, ◌+◌, ◌-◌, ◌<◌, ◌≤◌, Bool, true, false, ◌&&◌, ◌||◌, List, [], ◌∷◌, ◌++◌, length, Some, refl, sym, ap, ◌∙◌, subst, arith, ◌⊎◌, inl, inr, ⊎_elim}
 use Rattle.std.specs.Prelude.{nat_eq, if◌then◌else◌}
-use Rattle.std.proofs.lemmas.Bool.{eqb-true, eq-eqb, and_parts, and_from, or_cases, or_left, or_right}
+use Rattle.std.proofs.lemmas.Bool.{eqb-true, eq-eqb, and_parts, and_from, or_cases, or_left, or_right, false≢true}
 use Rattle.trees.proofs.Fusion.{substitute_rel, rename_same}
 use Rattle.trees.specs.Tree.{Rel, Done, Next, term_at}
 use Rattle.trees.specs.Parallel.{rename, over, overs, put, substitute, substitute_terms, first}
@@ -256,10 +256,7 @@ module _ (k p : ℕ) (t0 : BoxTerm) (none : uses k t0 ≡ 0) where
     family {f} {F} h = (subst (λ (Fs : List BoxFamily). Has Fs F) (sym families) h.0, h.1)
 
     alone : {e' : ClosureEnv} {s : ℕ → BoxTerm} {t : BoxTerm} {v : ClosureValue} {c : Counts} → ((q : ℕ) → is_spine k t q ≡ false) → Ran e' (substitute s (cut k p t)) v c → Followed e' s t v c
-    alone never x = record { ran = λ h. x; reached = λ q m e y. absurd (differs (sym (never q) ∙ y)) }
-      where
-        differs : false ≡ true → ⊥
-        differs e = cc
+    alone never x = record { ran = λ h. x; reached = λ q m e y. absurd (false≢true (sym (never q) ∙ y)) }
 
     -- the constant itself
     constant_reached : {e' : ClosureEnv} {name : Name} {t : BoxTerm} {v : ClosureValue} {c : Counts} → name.0 ≡ k → t ≡ whole → KeepsBoxConstant Q name (lambdas p low) → ClosureRun P Empty t v c → (m : ℕ) → p ≡ 0 + m → Reached e' (BConst name) v (contraction ⊕ c) m

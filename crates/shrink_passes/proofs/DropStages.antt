@@ -1,7 +1,8 @@
 -- The places that the walk at the start notes are those that the steps drop, one by one.
 use Rattle.std.proofs.Common.{◌≡◌, ℕ, zero, suc, ◌+◌, ◌-◌, ◌<◌, ◌≤◌, Bool, true, false, ◌&&◌, List, [], ◌∷◌, Option, Some, None, refl, sym, ap, ◌∙◌, subst, arith, ⊎_elim}
 use Rattle.std.specs.Prelude.{nat_eq, if◌then◌else◌, reverse}
-use Rattle.std.proofs.lemmas.Bool.{cases_lt, eqb-true, eq-eqb, and_parts}
+use Rattle.std.proofs.lemmas.Bool.{cases_lt, eqb-true, eq-eqb, and_parts, false≢true}
+use Rattle.std.proofs.Math.Bool.{and_assoc, and-true}
 use mathlib.Core.Path.{fun_ext}
 use Rattle.trees.specs.Tree.{Rel, Done, Next}
 use Rattle.trees.specs.Parallel.{first, over, substitute}
@@ -23,14 +24,11 @@ use Rattle.shrink_passes.proofs.Cutting.{fits_unused}
 use Rattle.shrink_passes.specs.ShrinkLaws.{Shrinks}
 use Rattle.shrink_passes.proofs.DropSteps.{params_steps, step, drop_is_right}
 use Rattle.shrink_passes.proofs.Thinning.{Thins, thins_rel, thins_over, thins_first}
-use Rattle.shrink_passes.proofs.Flagging.{and_true, and_more, nat_eq_no, below_true, below_false}
+use Rattle.shrink_passes.proofs.Flagging.{nat_eq_no, below_true, below_false}
 use Rattle.shrink_passes.proofs.UnusedPlaces.{unused_past, unused_leads}
 use Rattle.shrink_passes.proofs.Spines.{kept_below, kept_more, kept_same, kept_agree}
 use Rattle.shrink_passes.proofs.Cuts.{Boxes, boxes_of_fits, pruned_closed, pruned_leading, pruned_unused, pruned_uses, pruned_same, fits_pruned, cut_pruned}
 use Rattle.shrink_passes.proofs.Unwrapped.{lambdas_more, unused_under, without_under, put_over, over_unnamed}
-
-differs : false ≡ true → ⊥
-differs e = cc
 
 -- what a body of no leading lambdas becomes
 unwrapped_none : (E : ℕ → Bool) (p : ℕ) (s : ℕ → BoxTerm) (t : BoxTerm) → leading t ≡ 0 → substitute s t ≡ unwrapped E p s t
@@ -47,7 +45,7 @@ fits_mapped k p f [] = true
 fits_mapped k p f (d ∷ ds) = fits k p [] (f d.body) && fits_mapped k p f ds
 
 fits_standing : (k p : ℕ) (f : BoxTerm → BoxTerm) (rest done : List BoxConstant) → fits_constants k p done ≡ true → fits_constants k p (standing f rest done) ≡ fits_mapped k p f rest
-fits_standing k p f rest done all = whole rest done ∙ ap (λ z. fits_mapped k p f rest && z) all ∙ and_true (fits_mapped k p f rest)
+fits_standing k p f rest done all = whole rest done ∙ ap (λ z. fits_mapped k p f rest && z) all ∙ and-true (fits_mapped k p f rest)
   where
     turn : (x y z : Bool) → (x && (y && z)) ≡ ((y && x) && z)
     turn true true z = refl
@@ -156,7 +154,7 @@ module _ (T : ℕ → ℕ → Bool) (Fs : List BoxFamily) (main : BoxTerm) where
         where
           below : (z : Bool) → (if z then T k r else false) ≡ true → T k r ≡ true
           below true e = e
-          below false e = absurd (differs e)
+          below false e = absurd (false≢true e)
 
           either : (z : Bool) → nat_eq j k ≡ z → (if z then (if is_below r q then T k r else false) else D j r) ≡ true → T j r ≡ true
           either true e g = ap (λ n. T n r) (eqb-true j k e) ∙ below (is_below r q) g
@@ -175,7 +173,7 @@ module _ (T : ℕ → ℕ → Bool) (Fs : List BoxFamily) (main : BoxTerm) where
         where
           own : (z : Bool) → nat_eq r q ≡ z → (if is_below r (suc q) then T k r else false) ≡ (if z then true else (if is_below r q then T k r else false))
           own true e = let g = eqb-true r q e in ap (λ z. if z then T k r else false) (below_true r (suc q) (omega (arith, g))) ∙ ap (T k) g ∙ t
-          own false e = ap (λ z. if z then T k r else false) (next_below r q (λ g. differs (sym e ∙ eq-eqb r q g)))
+          own false e = ap (λ z. if z then T k r else false) (next_below r q (λ g. false≢true (sym e ∙ eq-eqb r q g)))
 
           either : (z : Bool) → (if z then (if is_below r (suc q) then T k r else false) else D j r) ≡
               (if z then (if nat_eq r q then true else (if z then (if is_below r q then T k r else false) else D j r)) else (if z then (if is_below r q then T k r else false) else D j r))
@@ -189,7 +187,7 @@ module _ (T : ℕ → ℕ → Bool) (Fs : List BoxFamily) (main : BoxTerm) where
           own true e =
               let g = eqb-true r q e in
               ap (λ z. if z then T k r else false) (below_false r q (omega (arith, g))) ∙ sym (ap (λ z. if z then T k r else false) (below_true r (suc q) (omega (arith, g))) ∙ ap (T k) g ∙ t)
-          own false e = sym (ap (λ z. if z then T k r else false) (next_below r q (λ g. differs (sym e ∙ eq-eqb r q g))))
+          own false e = sym (ap (λ z. if z then T k r else false) (next_below r q (λ g. false≢true (sym e ∙ eq-eqb r q g))))
 
       same_table : (x y : ℕ → ℕ → Bool) → ((j r : ℕ) → x j r ≡ y j r) → x ≡ y
       same_table x y e = fun_ext (λ j. fun_ext (e j))
@@ -224,7 +222,7 @@ module _ (T : ℕ → ℕ → Bool) (Fs : List BoxFamily) (main : BoxTerm) where
           let others : fits_constants k (P q) (standing f rest (record { name = d.name; body = b } ∷ done)) ≡ fits_constants k q rest =
           fits_standing k (P q) f rest (record { name = d.name; body = b } ∷ done) (own_fits q b ok) ∙ ap (λ n. fits_mapped k n f rest) (sym (upto_kept q)) ∙ fits_rest q rest rest_fit in
           let whole : fits k (P q) [] (f main) ≡ fits k q [] main = ap (λ n. fits k n [] (f main)) (sym (upto_kept q)) ∙ fits_pruned (upto q) k q (upto_out q) main (upto_boxes q main main_fits) in
-          (λ i. unused i && (others i && whole i)) ∙ sym (and_more (is_unused q d.body) (fits_constants k q rest) (fits k q [] main)) ∙ sym (S.known.0 q)
+          (λ i. unused i && (others i && whole i)) ∙ sym (and_assoc (is_unused q d.body) (fits_constants k q rest) (fits k q [] main)) ∙ sym (S.known.0 q)
 
       -- the term inside leading lambdas is that of the body
       abbrev Inside : ℕ → BoxTerm → Type 0
@@ -371,7 +369,7 @@ module _ (T : ℕ → ℕ → Bool) (Fs : List BoxFamily) (main : BoxTerm) where
             where
               either : (z : Bool) → nat_eq j k ≡ z → (if z then T k r else D j r) ≡ T j r
               either true e = ap (λ n. T n r) (sym (eqb-true j k e))
-              either false e = S.agree j ((λ q. differs (sym e ∙ eq-eqb j k (sym q))), f) r
+              either false e = S.agree j ((λ q. false≢true (sym e ∙ eq-eqb j k (sym q))), f) r
 
           out : {e : BoxConstant} → Has rest e → (r : ℕ) → after e.name.0 r ≡ false
           out {e} h r = ap (λ z. if z then T k r else D e.name.0 r) (nat_eq_no e.name.0 k (later_other done (pruned D) d rest S.form rest (later Fs done (pruned D) d rest main S.form) h)) ∙ S.out (there h) r
@@ -432,7 +430,7 @@ module _ (P : BoxProgram) (ok : IsBoxProgram P) where
   first_stage : Stage T P.families P.main (λ j r. false) [] (reverse P.constants)
   first_stage = record {
     form = subst (λ (f : BoxTerm → BoxTerm). IsBoxProgram (stands P.families [] f (reverse P.constants) P.main)) (λ i t. sym (pruned_nothing t) i) start;
-    inside = λ j r e. absurd (differs e);
+    inside = λ j r e. absurd (false≢true e);
     agree = none_of_none;
     out = λ h r. refl;
     known = known;

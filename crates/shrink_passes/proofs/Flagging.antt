@@ -1,33 +1,14 @@
 -- Truths by place: lists that lose some, and truths in the other order.
 use Rattle.std.proofs.Common.{◌≡◌, ℕ, zero, suc, ◌+◌, ◌<◌, ◌≤◌, Bool, true, false, ◌&&◌, List, [], ◌∷◌, ◌++◌, length, get_or, reverse, set, take, Result, Ok, Err, refl, sym, ap, ◌∙◌, subst, arith}
-use Rattle.std.specs.Prelude.{nat_eq, IfOk, OnOk, if◌then◌else◌}
+use Rattle.std.specs.Prelude.{nat_eq, IfOk, if◌then◌else◌}
 use Rattle.std.proofs.lemmas.Bool.{eqb-true, eq-eqb}
 use Rattle.std.proofs.lemmas.List.{reverse-append, length-reverse}
+use Rattle.std.proofs.Math.Bool.{and-true, and-false}
+use Rattle.std.proofs.Math.Dec.{eqb-suc-suc}
 use Rattle.shrink_passes.specs.DeadPlaces.{flag_at, is_below}
-
-pub and_true : (x : Bool) → (x && true) ≡ x
-and_true true = refl
-and_true false = refl
-
-pub and_false : (x : Bool) → (x && false) ≡ false
-and_false true = refl
-and_false false = refl
-
-pub and_more : (x y z : Bool) → ((x && y) && z) ≡ (x && (y && z))
-and_more true y z = refl
-and_more false y z = refl
-
-pub nat_eq_suc : (a b : ℕ) → nat_eq (suc a) (suc b) ≡ nat_eq a b
-nat_eq_suc a b = grind arith
 
 pub nat_eq_no : (a b : ℕ) → (a ≡ b → ⊥) → nat_eq a b ≡ false
 nat_eq_no a b h = grind (arith, h)
-
-pub not_and : {x : Bool} → x ≡ false → x ≡ true → ⊥
-not_and {x} e g = differs (sym e ∙ g)
-  where
-    differs : false ≡ true → ⊥
-    differs e = cc
 
 -- numbers below another
 
@@ -64,10 +45,10 @@ length_trues (suc n) = ap suc (length_trues n)
 
 pub flag_cleared : (xs : List Bool) (i p : ℕ) → flag_at p (set xs i false) ≡ (flag_at p xs && (if nat_eq i p then false else true))
 flag_cleared [] i p = refl
-flag_cleared (x ∷ xs) zero zero = sym (and_false x)
-flag_cleared (x ∷ xs) zero (suc p) = let e : nat_eq 0 (suc p) ≡ false = grind arith in sym (ap (λ z. flag_at p xs && (if z then false else true)) e ∙ and_true (flag_at p xs))
-flag_cleared (x ∷ xs) (suc i) zero = let e : nat_eq (suc i) 0 ≡ false = grind arith in sym (ap (λ z. x && (if z then false else true)) e ∙ and_true x)
-flag_cleared (x ∷ xs) (suc i) (suc p) = flag_cleared xs i p ∙ ap (λ z. flag_at p xs && (if z then false else true)) (sym (nat_eq_suc i p))
+flag_cleared (x ∷ xs) zero zero = sym (and-false x)
+flag_cleared (x ∷ xs) zero (suc p) = let e : nat_eq 0 (suc p) ≡ false = grind arith in sym (ap (λ z. flag_at p xs && (if z then false else true)) e ∙ and-true (flag_at p xs))
+flag_cleared (x ∷ xs) (suc i) zero = let e : nat_eq (suc i) 0 ≡ false = grind arith in sym (ap (λ z. x && (if z then false else true)) e ∙ and-true x)
+flag_cleared (x ∷ xs) (suc i) (suc p) = flag_cleared xs i p ∙ ap (λ z. flag_at p xs && (if z then false else true)) (sym (eqb-suc-suc i p))
 
 pub flag_there : (xs : List Bool) (p : ℕ) (x : Bool) → p < length xs → get_or xs p x ≡ flag_at p xs
 flag_there [] p x l = absurd (omega arith)
@@ -83,13 +64,13 @@ pub flag_not_cleared : (xs : List Bool) (i p : ℕ) → length xs ≤ i → flag
 flag_not_cleared xs i p l = either (nat_eq i p) refl
   where
     either : (z : Bool) → nat_eq i p ≡ z → flag_at p xs ≡ (flag_at p xs && (if z then false else true))
-    either true e = let q = eqb-true i p e in flag_past xs p (subst (λ n. length xs ≤ n) q l) ∙ sym (and_false (flag_at p xs))
-    either false e = sym (and_true (flag_at p xs))
+    either true e = let q = eqb-true i p e in flag_past xs p (subst (λ n. length xs ≤ n) q l) ∙ sym (and-false (flag_at p xs))
+    either false e = sym (and-true (flag_at p xs))
 
 pub flag_taken : (n : ℕ) (xs : List Bool) (p : ℕ) → flag_at p (take n xs) ≡ (flag_at p xs && is_below p n)
-flag_taken zero xs p = sym (and_false (flag_at p xs))
+flag_taken zero xs p = sym (and-false (flag_at p xs))
 flag_taken (suc n) [] p = refl
-flag_taken (suc n) (x ∷ xs) zero = sym (and_true x)
+flag_taken (suc n) (x ∷ xs) zero = sym (and-true x)
 flag_taken (suc n) (x ∷ xs) (suc p) = flag_taken n xs p
 
 -- in the other order
@@ -110,10 +91,6 @@ flag_reversed (x ∷ xs) p zero e = ap (flag_at p) (reverse-append (x ∷ []) xs
 flag_reversed (x ∷ xs) p (suc q) e = ap (flag_at p) (reverse-append (x ∷ []) xs) ∙ flag_before (reverse xs) (x ∷ []) p (omega (arith, length-reverse xs)) ∙ flag_reversed xs p q (omega arith)
 
 -- what an answer says, said otherwise
-pub on_ok_map : {V E P Q : Type 0} (r : Result V E) → (P → Q) → OnOk r P → OnOk r Q
-on_ok_map (Ok v) f h = f h
-on_ok_map (Err e) f h = h
-
 pub if_ok_map : {V E : Type 0} {P Q : V → Type 0} (r : Result V E) → ((v : V) → P v → Q v) → IfOk r P → IfOk r Q
 if_ok_map (Ok v) f h = f v h
 if_ok_map (Err e) f h = h

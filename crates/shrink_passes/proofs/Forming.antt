@@ -1,7 +1,7 @@
 -- A step of inlining keeps the form of programs.
 use Rattle.std.proofs.Common.{◌≡◌, ◌≢◌, ℕ, zero, suc, ◌+◌, ◌<◌, ◌≤◌, Bool, true, false, List, [], ◌∷◌, length, get_or, AllPairs, refl, sym, ap, ◌∙◌, subst, arith, ◌⊎◌, inl, inr, ⊎_elim}
 use Rattle.std.specs.Prelude.{nat_eq, if◌then◌else◌}
-use Rattle.std.proofs.lemmas.Bool.{eqb-true, eq-eqb}
+use Rattle.std.proofs.lemmas.Bool.{eqb-true, eq-eqb, false≢true}
 use Rattle.trees.specs.Tree.{Rel, Done, Next}
 use Rattle.trees.specs.Closed.{Closed, ClosedTerms, EveryTerm}
 use Rattle.trees.specs.Shape.{binders_of}
@@ -94,10 +94,7 @@ module _ (k : ℕ) (b : BoxTerm) where
         where
           either : (z : Bool) → nat_eq c.0 k ≡ z → NamesOnly ds (if z then b else BConst c)
           either true e = g
-          either false e = (keeps c (λ q. differs (sym e ∙ eq-eqb c.0 k q)) h.0, tt)
-            where
-              differs : false ≡ true → ⊥
-              differs e = cc
+          either false e = (keeps c (λ q. false≢true (sym e ∙ eq-eqb c.0 k q)) h.0, tt)
       put_named (BConstruct f i) h = (tt, tt)
       put_named (BCase f s bs) h = (tt, (put_named s h.1.0, (put_named_terms bs h.1.1.0, tt)))
       put_named (BFix i rargs bodies) h = (tt, (put_named_terms bodies h.1.0, tt))

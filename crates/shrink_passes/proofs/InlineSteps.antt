@@ -2,7 +2,7 @@
 use Rattle.std.proofs.Common.{◌≡◌, ℕ, zero, suc, ◌+◌, ◌*◌, ◌≤◌, Bool, true, false, List, [], ◌∷◌, refl, sym, ap, ◌∙◌, subst, arith, ◌⊎◌, inl, inr, ⊎_elim}
 use Rattle.std.specs.Prelude.{nat_eq, nat_le, if◌then◌else◌, reverse}
 use Rattle.trees.specs.Tree.{Rel, Done, Next}
-use Rattle.std.proofs.lemmas.Bool.{eqb-true, eq-eqb, and_parts}
+use Rattle.std.proofs.lemmas.Bool.{eqb-true, eq-eqb, leb-true, and_parts, false≢true}
 use Rattle.trees.specs.Closed.{Closed}
 use Rattle.trees.specs.Measures.{nodes}
 use Rattle.pc_terms.specs.declared.leaf.Name.{Name}
@@ -20,7 +20,7 @@ use Rattle.shrink_passes.specs.ShrinkLaws.{KeepsRuns, InlineIsRight, Shrinks}
 use Rattle.shrink_passes.proofs.Putting.{put_nodes, unused}
 use Rattle.shrink_passes.proofs.Standing.{total_standing, nodes_total, total_balance}
 use Rattle.shrink_passes.proofs.Forming.{same_name, body_form, body_unused, done_unused, step_form}
-use Rattle.shrink_passes.proofs.Deciding.{start_program, true_le}
+use Rattle.shrink_passes.proofs.Deciding.{start_program}
 use Rattle.shrink_passes.proofs.Following.{keeps_runs, no_more_self, no_more_trans}
 
 -- saturated and ordinary terms stay so
@@ -154,10 +154,7 @@ module _ (Fs : List BoxFamily) (done : List BoxConstant) (f : BoxTerm → BoxTer
           let q : c.0 ≡ k = eqb-true c.0 k e in
           let same = one_of_name (λ (x : BoxConstant). x.name) now.constants ok.distinct_constants kept itself (same_name c d.name q) in
           inl (q, ap (λ (x : BoxConstant). x.body) same)
-      either false e = let other : c.0 ≡ k → ⊥ = λ q. differs (sym e ∙ eq-eqb c.0 k q) in inr (other, stays (record { name = c; body = t }) kept other)
-        where
-          differs : false ≡ true → ⊥
-          differs e = cc
+      either false e = let other : c.0 ≡ k → ⊥ = λ q. false≢true (sym e ∙ eq-eqb c.0 k q) in inr (other, stays (record { name = c; body = t }) kept other)
 
   step_runs : KeepsRuns now next
   step_runs vs args held v data' c run reads = keeps_runs k b (body_form Fs done f d rest main ok).closed (body_unused Fs done f d rest main ok) now next refl known (f main) ok.main.closed vs args held v data' c run reads
@@ -245,7 +242,7 @@ module _ (Fs : List BoxFamily) where
         ordinary = step_ordinary Fs done f d rest main ok;
         runs = step_runs Fs done f d rest main ok;
         nodes = step_nodes Fs done f d rest main ok (eqb-true (uses_program d.name.0 now) 1 both.0);
-        no_deeper = true_le (deepest next) (deepest now) both.1;
+        no_deeper = leb-true (deepest next) (deepest now) both.1;
       })
       (all_steps done (with_body f d) rest main (step_form Fs done f d rest main ok)))
       (λ e. all_steps (changed f d ∷ done) f rest main ok)

@@ -1,6 +1,8 @@
 -- What the walk notes of a term is what its uses are asked for.
 use Rattle.std.proofs.Common.{◌≡◌, ℕ, zero, suc, ◌+◌, ◌<◌, ◌≤◌, Bool, true, false, ◌&&◌, List, [], ◌∷◌, ◌++◌, Option, Some, None, reverse, refl, sym, ap, ◌∙◌, subst, arith}
 use Rattle.std.specs.Prelude.{nat_eq, if◌then◌else◌}
+use Rattle.std.proofs.Math.Bool.{and-true}
+use Rattle.std.proofs.Math.Dec.{eqb-suc-suc}
 use Rattle.trees.specs.Tree.{Rel, Done, Next}
 use Rattle.trees.specs.Measures.{depth}
 use Rattle.box_terms.specs.BoxSyntax.{BoxTerm, BoxTerms, Box, BLambda, BLetIn, BApp, BConst, BConstruct, BCase, BFix}
@@ -8,7 +10,6 @@ use Rattle.shrink_passes.specs.declared.flags.Loss.TheVariants.{Place, From}
 use Rattle.shrink_passes.specs.declared.noting.Use.{Use}
 use Rattle.shrink_passes.specs.DropParams.{is_box, box_at, fits, fits_terms}
 use Rattle.shrink_passes.specs.DeadPlaces.{is_below, keeps_place, one_more, spine, box_there, is_reached, noted}
-use Rattle.shrink_passes.proofs.Flagging.{and_true, and_more, nat_eq_suc}
 
 -- where a head gets further arguments: whether argument p of those after the first m is box, or is one of these
 abbrev past : ℕ → ℕ → List BoxTerm → Bool
@@ -21,10 +22,10 @@ tail k p None xs = true
 tail k p (Some u) xs = if nat_eq u.name.0 k then past p u.arguments xs else true
 
 past_one : (p m : ℕ) (a : BoxTerm) (xs : List BoxTerm) → past p m (a ∷ xs) ≡ ((if nat_eq m p then is_box a else true) && past p (suc m) xs)
-past_one zero zero a xs = sym (and_true (is_box a))
+past_one zero zero a xs = sym (and-true (is_box a))
 past_one (suc p) zero a xs = let e : nat_eq 0 (suc p) ≡ false = grind arith in sym (ap (λ z. (if z then is_box a else true) && past (suc p) 1 xs) e)
 past_one zero (suc m) a xs = let e : nat_eq (suc m) 0 ≡ false = grind arith in sym (ap (λ z. (if z then is_box a else true) && true) e)
-past_one (suc p) (suc m) a xs = past_one p m a xs ∙ ap (λ z. (if z then is_box a else true) && past p (suc m) xs) (sym (nat_eq_suc m p))
+past_one (suc p) (suc m) a xs = past_one p m a xs ∙ ap (λ z. (if z then is_box a else true) && past p (suc m) xs) (sym (eqb-suc-suc m p))
 
 tail_one : (k p : ℕ) (h : Option Use) (a : BoxTerm) (xs : List BoxTerm) → tail k p h (a ∷ xs) ≡ (box_there k p h a && tail k p (one_more h) xs)
 tail_one k p None a xs = refl
@@ -49,11 +50,11 @@ fits_as_noted k p xs (BApp f a) =
 fits_as_noted k p xs (BConst c) = refl
 fits_as_noted k p xs (Rel i) = refl
 fits_as_noted k p xs Box = refl
-fits_as_noted k p xs (BLambda b) = sym (and_true (fits k p [] b))
-fits_as_noted k p xs (BLetIn a t) = sym (and_true (fits k p [] a && fits k p [] t))
+fits_as_noted k p xs (BLambda b) = sym (and-true (fits k p [] b))
+fits_as_noted k p xs (BLetIn a t) = sym (and-true (fits k p [] a && fits k p [] t))
 fits_as_noted k p xs (BConstruct f c) = refl
-fits_as_noted k p xs (BCase f s bs) = sym (and_true (fits k p [] s && fits_terms k p bs))
-fits_as_noted k p xs (BFix i rargs bodies) = sym (and_true (fits_terms k p bodies))
+fits_as_noted k p xs (BCase f s bs) = sym (and-true (fits k p [] s && fits_terms k p bs))
+fits_as_noted k p xs (BFix i rargs bodies) = sym (and-true (fits_terms k p bodies))
 
 past_none : (p m : ℕ) → past p m [] ≡ is_below p m
 past_none p zero = refl

@@ -1,5 +1,7 @@
 -- What an evaluation with environments of box and of a lambda is, and small facts on values and terms.
-use Rattle.std.proofs.Common.{◌≡◌, ℕ, zero, suc, ◌+◌, ◌≤◌, Bool, true, false, ◌||◌, List, [], ◌∷◌, ◌++◌, refl, sym, ap, ◌∙◌, arith}
+use Rattle.std.proofs.Common.{◌≡◌, ℕ, zero, suc, ◌+◌, ◌≤◌, Bool, true, false, List, [], ◌∷◌, ◌++◌, refl, sym, ap, ◌∙◌, arith}
+use Rattle.std.proofs.lemmas.Bool.{false≢true}
+use Rattle.std.proofs.Math.Bool.{or-false}
 use mathlib.Core.Path.{fun_ext}
 use Rattle.trees.specs.Tree.{Rel}
 use Rattle.trees.specs.Parallel.{over, overs}
@@ -88,11 +90,7 @@ box_is_box (BFix i rargs bodies) e = absurd (cc)
 
 pub names_lambdas : (n : ℕ) (t : BoxTerm) (i : ℕ) → names (lambdas n t) i ≡ names t (n + i)
 names_lambdas zero t i = let q : i ≡ 0 + i = omega arith in ap (names t) q
-names_lambdas (suc n) t i = or_false (names (lambdas n t) (1 + i)) ∙ names_lambdas n t (1 + i) ∙ (let q : n + (1 + i) ≡ suc n + i = omega arith in ap (names t) q)
-  where
-    or_false : (x : Bool) → (x || false) ≡ x
-    or_false true = refl
-    or_false false = refl
+names_lambdas (suc n) t i = or-false (names (lambdas n t) (1 + i)) ∙ names_lambdas n t (1 + i) ∙ (let q : n + (1 + i) ≡ suc n + i = omega arith in ap (names t) q)
 
 pub closure_not_box : {e : ClosureEnv} {b : BoxTerm} → VBox ≡ VClosure e b → ⊥
 closure_not_box e = cc
@@ -101,10 +99,7 @@ pub closure_not_fix : {e d : ClosureEnv} {b : BoxTerm} {i : ℕ} {rargs : List �
 closure_not_fix e = cc
 
 pub not_true : {x : Bool} → x ≡ false → x ≡ true → ⊥
-not_true {x} e g = differs (sym e ∙ g)
-  where
-    differs : false ≡ true → ⊥
-    differs e = cc
+not_true {x} e g = false≢true (sym e ∙ g)
 
 pub overs_rel_same : (n : ℕ) → ◌≡◌ {A = ℕ → BoxTerm} (overs n Rel) Rel
 overs_rel_same zero = refl

@@ -1,7 +1,7 @@
 -- The passes that shrink programs make no lambda and no fixpoint capture more words.
 use Rattle.std.proofs.Common.{◌≡◌, ℕ, zero, suc, ◌+◌, ◌≤◌, Bool, true, false, ◌&&◌, ◌||◌, List, [], ◌∷◌, length, reverse, refl, sym, ap, ◌∙◌, subst, arith, ⊎_elim}
 use Rattle.std.specs.Prelude.{nat_eq, if◌then◌else◌}
-use Rattle.std.proofs.lemmas.Bool.{or_left, or_from, and_right}
+use Rattle.std.proofs.lemmas.Bool.{or_left, or_from, and_right, false≢true}
 use Rattle.trees.specs.Tree.{Rel, Done, Next}
 use Rattle.trees.specs.Parallel.{rename, up, ups, over, overs, put, substitute, substitute_terms}
 use Rattle.trees.specs.Closed.{Closed, ClosedTerms}
@@ -36,10 +36,7 @@ data Fewer : (ℕ → ℕ) → ClosureEnv → ClosureEnv → Type 0 where
 
 one_less : (x y : Bool) → (x ≡ true → y ≡ true) → one_if x ≤ one_if y
 one_less true true h = omega arith
-one_less true false h = absurd (differs (h refl))
-  where
-    differs : false ≡ true → ⊥
-    differs e = cc
+one_less true false h = absurd (false≢true (h refl))
 one_less false y h = omega arith
 
 both_true : (x y x' y' : Bool) → (x ≡ true → x' ≡ true) → (y ≡ true → y' ≡ true) → (x && y) ≡ true → (x' && y') ≡ true
@@ -102,9 +99,6 @@ fix_body boxed = refl
 fix_body last = refl
 fix_body (more h) = refl
 
-no_body : {A : Type 0} → false ≡ true → A
-no_body e = absurd (cc)
-
 module _ (Fs : List BoxFamily) (C : ℕ) where
   -- box or another variable put for each variable
 
@@ -142,7 +136,7 @@ module _ (Fs : List BoxFamily) (C : ℕ) where
       thin_narrow (over (overs m s)) (thins_over (thins_overs m th)) (follows_over (overs m s) (ups m r) (follows_overs m s r f)) (fewer_bind (subst (λ k. Fewer (ups k r) e' e) (sym are.0) w)) b form.0.1.0 h.0,
       thin_defs n rs s th f w ts are.2 form.1 h.1,
     )
-    thin_defs n (r ∷ rs) s th f w (Next m t ts) are form h = no_body (fix_body are.1)
+    thin_defs n (r ∷ rs) s th f w (Next m t ts) are form h = absurd (false≢true (fix_body are.1))
 
   -- an argument cut from uses
 
@@ -179,7 +173,7 @@ module _ (Fs : List BoxFamily) (C : ℕ) where
       cut_defs n (r ∷ rs) f w Done are form h = absurd are
       cut_defs n (r ∷ rs) f w (Next m Box ts) are form h = cut_defs n rs f w ts are.2 form.1 h
       cut_defs n (r ∷ rs) f w (Next m (BLambda b) ts) are form h = (cut_narrow (same_up f) (fewer_bind w) b form.0.1.0 h.0, cut_defs n rs f w ts are.2 form.1 h.1)
-      cut_defs n (r ∷ rs) f w (Next m t ts) are form h = no_body (fix_body are.1)
+      cut_defs n (r ∷ rs) f w (Next m t ts) are form h = absurd (false≢true (fix_body are.1))
 
   -- a leading lambda less
 
@@ -247,7 +241,7 @@ module _ (Fs : List BoxFamily) (C : ℕ) where
       longer_narrow (suc (m + n)) (longer_bind w) b (let q : 1 + (k + n) ≡ suc (m + n) = omega (arith, are.0) in closed_at b q c.0.0) form.0.1.0 h.0,
       longer_defs m rs n w ts c.1 are.2 form.1 h.1,
     )
-    longer_defs m (r ∷ rs) n w (Next k t ts) c are form h = no_body (fix_body are.1)
+    longer_defs m (r ∷ rs) n w (Next k t ts) c are form h = absurd (false≢true (fix_body are.1))
 
   -- a body put in place of uses
 
@@ -285,7 +279,7 @@ module _ (Fs : List BoxFamily) (C : ℕ) where
       put_defs n (r ∷ rs) f w Done are form h = absurd are
       put_defs n (r ∷ rs) f w (Next m Box ts) are form h = put_defs n rs f w ts are.2 form.1 h
       put_defs n (r ∷ rs) f w (Next m (BLambda t) ts) are form h = (put_narrow (same_up f) (fewer_bind w) t form.0.1.0 h.0, put_defs n rs f w ts are.2 form.1 h.1)
-      put_defs n (r ∷ rs) f w (Next m t ts) are form h = no_body (fix_body are.1)
+      put_defs n (r ∷ rs) f w (Next m t ts) are form h = absurd (false≢true (fix_body are.1))
 
   -- a closed body of the form, and narrow
   pub record Fine (t : BoxTerm) : Type 0 where

@@ -1,7 +1,9 @@
 -- Spines of constants: what one is, and what it becomes where arguments are dropped.
 use Rattle.std.proofs.Common.{◌≡◌, ℕ, zero, suc, ◌+◌, ◌<◌, ◌≤◌, Bool, true, false, ◌&&◌, List, [], ◌∷◌, Option, Some, None, refl, sym, ap, ◌∙◌, subst, arith, ◌⊎◌, inl, inr, ⊎_elim}
 use Rattle.std.specs.Prelude.{nat_eq, if◌then◌else◌}
-use Rattle.std.proofs.lemmas.Bool.{cases_lt, eqb-true, eq-eqb}
+use Rattle.std.proofs.lemmas.Bool.{cases_lt, eqb-true, eq-eqb, false≢true}
+use Rattle.std.proofs.lemmas.Option.{none-some}
+use Rattle.std.proofs.Math.Dec.{eqb-suc-suc}
 use Rattle.trees.specs.Tree.{Rel, Done, Next}
 use Rattle.box_terms.specs.BoxSyntax.{BoxTerm, BoxTerms, Box, BLambda, BLetIn, BApp, BConst, BConstruct, BCase, BFix}
 use Rattle.shrink_passes.specs.declared.noting.Use.{Use}
@@ -9,7 +11,7 @@ use Rattle.shrink_passes.specs.Uses.{uses}
 use Rattle.shrink_passes.specs.DropParams.{is_spine, is_box}
 use Rattle.shrink_passes.specs.DeadPlaces.{is_below, one_more, spine, box_there, is_reached}
 use Rattle.shrink_passes.specs.Pruned.{is_dropped, pruned}
-use Rattle.shrink_passes.proofs.Flagging.{nat_eq_suc, nat_eq_no, below_true, below_false}
+use Rattle.shrink_passes.proofs.Flagging.{nat_eq_no, below_true, below_false}
 
 -- how many of the first n places aren't dropped
 abbrev pub kept_below : (ℕ → Bool) → ℕ → ℕ
@@ -49,10 +51,7 @@ kept_strict E m n e g = either (nat_eq m n) refl
 
     either : (z : Bool) → nat_eq m n ≡ z → nat_eq (kept_below E m) (kept_below E n) ≡ z
     either true h = eq-eqb (kept_below E m) (kept_below E n) (ap (kept_below E) (eqb-true m n h))
-    either false h = nat_eq_no (kept_below E m) (kept_below E n) (apart (λ q. differs (sym h ∙ eq-eqb m n q)))
-      where
-        differs : false ≡ true → ⊥
-        differs e = cc
+    either false h = nat_eq_no (kept_below E m) (kept_below E n) (apart (λ q. false≢true (sym h ∙ eq-eqb m n q)))
 
 pub kept_under : (E : ℕ → Bool) (p m : ℕ) → E p ≡ false → is_below (kept_below E p) (kept_below E m) ≡ is_below p m
 kept_under E p m e = ⊎_elim
@@ -75,7 +74,7 @@ use_none k p (Some u) = either (nat_eq u.name.0 k)
 
 use_more : (k p : ℕ) (h : Option Use) → is_use k p h ≡ is_use k (suc p) (one_more h)
 use_more k p None = refl
-use_more k p (Some u) = ap (λ z. if nat_eq u.name.0 k then z else false) (sym (nat_eq_suc u.arguments p))
+use_more k p (Some u) = ap (λ z. if nat_eq u.name.0 k then z else false) (sym (eqb-suc-suc u.arguments p))
 
 pub spine_is : (k : ℕ) (t : BoxTerm) (p : ℕ) → is_spine k t p ≡ is_use k p (spine t)
 spine_is k (BConst c) zero = either (nat_eq c.0 k)
@@ -92,11 +91,8 @@ spine_is k (BApp f a) zero = use_none k 0 (spine f)
 spine_is k (BApp f a) (suc p) = spine_is k f p ∙ use_more k p (spine f)
 spine_is k t p = refl
 
-no_use : {u : Use} → None ≡ Some u → ⊥
-no_use e = cc
-
 pub spine_no_box : (t : BoxTerm) (u : Use) → spine t ≡ Some u → is_box t ≡ false
-spine_no_box Box u e = absurd (no_use e)
+spine_no_box Box u e = absurd (none-some u e)
 spine_no_box t u e = refl
 
 -- the constant of a spine is used

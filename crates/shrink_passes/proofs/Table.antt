@@ -3,7 +3,7 @@ use Rattle.std.proofs.Common.{◌≡◌, ℕ, zero, suc, ◌+◌, ◌<◌, ◌�
 use Rattle.std.specs.Prelude.{nat_eq, cond}
 use Rattle.std.proofs.lemmas.Bool.{eqb-true}
 use Rattle.std.proofs.lemmas.List.{reverse-reverse}
-use Rattle.trees.specs.Measures.{depth}
+use Rattle.trees.specs.Measures.{depth, depth_limit}
 use Rattle.box_terms.specs.BoxSyntax.{BoxTerm}
 use Rattle.lambda_box.specs.BoxProgram.{BoxConstant, BoxFamily, BoxProgram}
 use Rattle.lambda_box.specs.BoxForm.{IsBoxProgram}
@@ -58,7 +58,7 @@ module _ (P : BoxProgram) (S : ℕ → Option Sight) (g : ℕ) (m : ℕ → Opti
       new = still_new rest h.new.2;
     }
 
-  pub fill_shallow : g ≤ 2048 → depth (filled m d.body) ≤ 2048
+  pub fill_shallow : g ≤ depth_limit → depth (filled m d.body) ≤ depth_limit
   fill_shallow l = let s = body_shallow S g P.families P.main (inline_program P) (filled m) done d rest h.going in omega arith
 
 nothing_new : (m : ℕ → Option BoxTerm) → ((k : ℕ) → m k ≡ None) → (ds : List BoxConstant) → EachNew m ds
@@ -72,7 +72,7 @@ loop_starts P S g m rest e q ok none is = subst (λ (ds : List BoxConstant). Loo
   new = nothing_new m none (reverse P.constants);
 })
 
-pub loop_shallow : (P : BoxProgram) (S : ℕ → Option Sight) (g : ℕ) (m : ℕ → Option BoxTerm) (done rest : List BoxConstant) → Looped P S g m done rest → g ≤ 2048 → depth (filled m P.main) ≤ 2048
+pub loop_shallow : (P : BoxProgram) (S : ℕ → Option Sight) (g : ℕ) (m : ℕ → Option BoxTerm) (done rest : List BoxConstant) → Looped P S g m done rest → g ≤ depth_limit → depth (filled m P.main) ≤ depth_limit
 loop_shallow P S g m done rest h l = let s = main_shallow S g P.families P.main (inline_program P) (filled m) done rest h.going in omega arith
 
 pub loop_ends : (P : BoxProgram) (S : ℕ → Option Sight) (g : ℕ) (m : ℕ → Option BoxTerm) (done rest : List BoxConstant) (Fs : List BoxFamily) (main : BoxTerm) → Looped P S g m done rest → rest ≡ [] → Fs ≡ P.families → main ≡ filled m P.main →

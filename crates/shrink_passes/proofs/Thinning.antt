@@ -1,7 +1,7 @@
 -- Substitutions that put variables for variables, each for one at most, or box; and what a term names after them.
 use Rattle.std.proofs.Common.{◌≡◌, ℕ, zero, suc, ◌+◌, ◌<◌, Bool, true, false, ◌||◌, List, refl, sym, ap, ◌∙◌, subst, arith, ◌⊎◌, inl, inr, ⊎_elim}
 use Rattle.std.specs.Prelude.{if◌then◌else◌}
-use Rattle.std.proofs.lemmas.Bool.{eqb-true, eq-eqb, or_cases, or_left, or_right}
+use Rattle.std.proofs.lemmas.Bool.{eqb-true, eq-eqb, or_cases, or_left, or_right, false≢true}
 use Rattle.trees.specs.Tree.{Slot, Rel, Node, Places, End, Child, Group, Done, Next}
 use Rattle.trees.specs.Parallel.{rename, over, overs, substitute, substitute_children, substitute_terms, first}
 use Rattle.box_terms.specs.BoxSyntax.{BoxLabel, box_slots, BoxTerm, BoxTerms, Box, BLambda, BLetIn, BApp, BConst, BConstruct, BCase, BFix}
@@ -28,10 +28,7 @@ is_variable (Rel i) = true
 is_variable t = false
 
 pub box_no_variable : {j : ℕ} → Box ≡ Rel j → ⊥
-box_no_variable {j} e = differs (ap is_variable e)
-  where
-    differs : false ≡ true → ⊥
-    differs e = cc
+box_no_variable {j} e = false≢true (ap is_variable e)
 
 pub thins_rel : Thins Rel
 thins_rel = record { thin = λ i. inr (i, refl); apart = λ i i' j e g. same_variable e ∙ sym (same_variable g) }
@@ -93,11 +90,8 @@ overs_below (suc n) s (suc i) l = ap (rename suc) (overs_below n s i (omega arit
 mutual
   pub named_before : (s : ℕ → BoxTerm) → Thins s → (t : BoxTerm) (i j : ℕ) → s i ≡ Rel j → names (substitute s t) j ≡ true → names t i ≡ true
   named_before s h (Rel m) i j e n =
-      ⊎_elim (λ b. absurd (differs (sym (ap (λ t. names t j) b) ∙ n)))
+      ⊎_elim (λ b. absurd (false≢true (sym (ap (λ t. names t j) b) ∙ n)))
       (λ v. let q : v.0 ≡ j = eqb-true v.0 j (sym (ap (λ t. names t j) v.1) ∙ n) in eq-eqb m i (h.apart m i j (v.1 ∙ ap Rel q) e)) (h.thin m)
-    where
-      differs : false ≡ true → ⊥
-      differs e = cc
   named_before s h (Node l ts) i j e n = named_before_places s h ts i j e n
 
   named_before_places : (s : ℕ → BoxTerm) → Thins s → {ss : List Slot} (ts : Places BoxLabel box_slots ss) (i j : ℕ) → s i ≡ Rel j → names_places (substitute_children s ts) j ≡ true → names_places ts i ≡ true

@@ -1,7 +1,8 @@
 -- Which variables a term doesn't name, walked from its root.
 use Rattle.std.proofs.Common.{◌≡◌, ℕ, zero, suc, ◌+◌, ◌-◌, ◌<◌, ◌≤◌, Bool, true, false, ◌&&◌, ◌||◌, List, [], ◌∷◌, length, reverse, refl, sym, ap, ◌∙◌, subst, arith, ◌⊎◌, ⊎_elim}
 use Rattle.std.specs.Prelude.{nat_eq, if◌then◌else◌}
-use Rattle.std.proofs.lemmas.Bool.{cases_lt}
+use Rattle.std.proofs.lemmas.Bool.{cases_lt, false≢true}
+use Rattle.std.proofs.Math.Bool.{or-false}
 use Rattle.std.proofs.lemmas.List.{length-reverse}
 use Rattle.trees.specs.Tree.{Rel, Next}
 use Rattle.trees.specs.Closed.{Closed}
@@ -23,31 +24,27 @@ neither : (x y : Bool) → (if x || y then false else true) ≡ ((if x then fals
 neither true y = refl
 neither false y = refl
 
-or_false : (x : Bool) → (x || false) ≡ x
-or_false true = refl
-or_false false = refl
-
 pub unnamed_lambda : (i j : ℕ) (b : BoxTerm) → j ≡ suc i → is_unnamed i (BLambda b) ≡ is_unnamed j b
-unnamed_lambda i j b e = let q : 1 + i ≡ j = omega (arith, e) in ap (λ z. if z then false else true) (or_false (names b (1 + i)) ∙ ap (names b) q)
+unnamed_lambda i j b e = let q : 1 + i ≡ j = omega (arith, e) in ap (λ z. if z then false else true) (or-false (names b (1 + i)) ∙ ap (names b) q)
 
 pub unnamed_let : (i j : ℕ) (a b : BoxTerm) → j ≡ suc i → is_unnamed i (BLetIn a b) ≡ (is_unnamed i a && is_unnamed j b)
 unnamed_let i j a b e =
     let q : 1 + i ≡ j = omega (arith, e) in
     let p : 0 + i ≡ i = omega arith in
-    ap (λ z. if z then false else true) (ap (λ n. names a n || (names b (1 + i) || false)) p ∙ ap (λ z. names a i || z) (or_false (names b (1 + i)) ∙ ap (names b) q)) ∙ neither (names a i) (names b j)
+    ap (λ z. if z then false else true) (ap (λ n. names a n || (names b (1 + i) || false)) p ∙ ap (λ z. names a i || z) (or-false (names b (1 + i)) ∙ ap (names b) q)) ∙ neither (names a i) (names b j)
 
 pub unnamed_app : (i : ℕ) (f a : BoxTerm) → is_unnamed i (BApp f a) ≡ (is_unnamed i f && is_unnamed i a)
 unnamed_app i f a =
     let p : 0 + i ≡ i = omega arith in
-    ap (λ z. if z then false else true) (ap (λ n. names f n || (names a n || false)) p ∙ ap (λ z. names f i || z) (or_false (names a i))) ∙ neither (names f i) (names a i)
+    ap (λ z. if z then false else true) (ap (λ n. names f n || (names a n || false)) p ∙ ap (λ z. names f i || z) (or-false (names a i))) ∙ neither (names f i) (names a i)
 
 pub unnamed_case : (i : ℕ) (f : FamilyId) (s : BoxTerm) (bs : BoxTerms) → is_unnamed i (BCase f s bs) ≡ (is_unnamed i s && are_unnamed i bs)
 unnamed_case i f s bs =
     let p : 0 + i ≡ i = omega arith in
-    ap (λ z. if z then false else true) (ap (λ n. names s n || (names_terms bs i || false)) p ∙ ap (λ z. names s i || z) (or_false (names_terms bs i))) ∙ neither (names s i) (names_terms bs i)
+    ap (λ z. if z then false else true) (ap (λ n. names s n || (names_terms bs i || false)) p ∙ ap (λ z. names s i || z) (or-false (names_terms bs i))) ∙ neither (names s i) (names_terms bs i)
 
 pub unnamed_fix : (i m : ℕ) (rargs : List ℕ) (bodies : BoxTerms) → is_unnamed i (BFix m rargs bodies) ≡ are_unnamed i bodies
-unnamed_fix i m rargs bodies = ap (λ z. if z then false else true) (or_false (names_terms bodies i))
+unnamed_fix i m rargs bodies = ap (λ z. if z then false else true) (or-false (names_terms bodies i))
 
 pub unnamed_next : (i j m : ℕ) (t : BoxTerm) (ts : BoxTerms) → j ≡ m + i → are_unnamed i (Next m t ts) ≡ (is_unnamed j t && are_unnamed i ts)
 unnamed_next i j m t ts e = neither (names t (m + i)) (names_terms ts i) ∙ ap (λ n. is_unnamed n t && are_unnamed i ts) (sym e)
@@ -75,10 +72,7 @@ unused_past zero t l = refl
 unused_past (suc p) t l = refl
 
 pub unused_leads : (p : ℕ) (t : BoxTerm) → is_unused p t ≡ true → p < leading t
-unused_leads p t e = ⊎_elim (λ l. l) (λ l. absurd (differs (sym (unused_past p t l) ∙ e))) (cases_lt p (leading t))
-  where
-    differs : false ≡ true → ⊥
-    differs e = cc
+unused_leads p t e = ⊎_elim (λ l. l) (λ l. absurd (false≢true (sym (unused_past p t l) ∙ e))) (cases_lt p (leading t))
 
 pub spare_reversed : (t : BoxTerm) (xs : List Bool) → ((j : ℕ) → flag_at j xs ≡ is_spare 0 t j) → length xs ≡ leading t → (p : ℕ) → flag_at p (reverse xs) ≡ is_unused p t
 spare_reversed t xs is len p = ⊎_elim

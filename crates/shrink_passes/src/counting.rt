@@ -1,7 +1,7 @@
 //! One walk that notes where each constant is used.
 ghost use Rattle.std.specs.Prelude.{◌≡◌, ◌+◌, ◌≤◌, ℕ, IfOk, IfErr, OnOk, nat_eq, if◌then◌else◌, length};
 ghost use Rattle.std.specs.HashMap.{get};
-ghost use Rattle.trees.specs.Measures.{depth, depth_trees};
+ghost use Rattle.trees.specs.Measures.{depth, depth_trees, depth_limit};
 ghost use Rattle.box_terms.specs.BoxLists.{arms_of, bodies_of, depth_defs};
 ghost use Rattle.lambda_box.specs.declared.fault.PassFault.TheVariants.{Memory};
 ghost use Rattle.shrink_passes.specs.Sights.{seen, sight, sight_terms, sight_program};
@@ -41,7 +41,7 @@ fn see(sights: &mut HashMap<u32, Sight>, name: Name, n: u32) -> Result<(), PassF
 #[cycle(count)]
 #[tactic(auto, using(std::proofs::lemmas::Grind::common_steps))]
 fn count(sights: &mut HashMap<u32, Sight>, t: &BoxTerm, n: u32) -> Result<(), PassFault>
-    requires room { n + depth t.now ≤ 2049 }
+    requires room { n + depth t.now ≤ depth_limit + 1 }
     ensures counted { OnOk result ((k : ℕ) → get nat_eq sights.new k ≡ sight k n t.now (get nat_eq sights.old k)) }
     ensures only_memory { IfErr result (λ e. e ≡ Memory) }
 {
@@ -75,7 +75,7 @@ fn count_branches(
     bs: &BoxBranches,
     n: u32,
 ) -> Result<(), PassFault>
-    requires room { n + depth_trees (arms_of bs.now) ≤ 2049 }
+    requires room { n + depth_trees (arms_of bs.now) ≤ depth_limit + 1 }
     ensures counted { OnOk result ((k : ℕ) → get nat_eq sights.new k ≡ sight_terms k n (arms_of bs.now) (get nat_eq sights.old k)) }
     ensures only_memory { IfErr result (λ e. e ≡ Memory) }
 {
@@ -91,7 +91,7 @@ fn count_branches(
 #[cycle(count)]
 #[tactic(auto, using(std::proofs::lemmas::Grind::common_steps))]
 fn count_defs(sights: &mut HashMap<u32, Sight>, ds: &BoxDefs, n: u32) -> Result<(), PassFault>
-    requires room { n + depth_defs ds.now ≤ 2049 }
+    requires room { n + depth_defs ds.now ≤ depth_limit + 1 }
     ensures counted { OnOk result ((k : ℕ) → get nat_eq sights.new k ≡ sight_terms k n (bodies_of (length ds.now) ds.now) (get nat_eq sights.old k)) }
     ensures only_memory { IfErr result (λ e. e ≡ Memory) }
 {

@@ -1,7 +1,7 @@
 //! Terms with the bodies of constants in place of their uses.
 ghost use Rattle.std.specs.Prelude.{◌≡◌, ◌≤◌, ℕ, IfOk, IfErr, nat_eq, length, map};
 ghost use Rattle.std.specs.HashMap.{get};
-ghost use Rattle.trees.specs.Measures.{depth, depth_trees};
+ghost use Rattle.trees.specs.Measures.{depth, depth_trees, depth_limit};
 ghost use Rattle.box_terms.specs.BoxSyntax.{BConst};
 ghost use Rattle.box_terms.specs.BoxLists.{arms_of, bodies_of};
 ghost use Rattle.box_terms.specs.BoxView.{box_of};
@@ -41,7 +41,7 @@ fn made(
     node: BoxNode,
 ) -> Result<BoxTerm, PassFault>
     requires is { box_of node ≡ filled (get nat_eq bodies.now) t.now }
-    requires shallow { depth (filled (get nat_eq bodies.now) t.now) ≤ 2048 }
+    requires shallow { depth (filled (get nat_eq bodies.now) t.now) ≤ depth_limit }
     ensures ok { IfOk result (λ u. u ≡ filled (get nat_eq bodies.now) t.now) }
     ensures only_memory { IfErr result (λ e. e ≡ Memory) }
 {
@@ -60,7 +60,7 @@ pub(crate) fn fill(
     bodies: &HashMap<u32, BoxTerm>,
     t: &BoxTerm,
 ) -> Result<BoxTerm, PassFault>
-    requires shallow { depth (filled (get nat_eq bodies.now) t.now) ≤ 2048 }
+    requires shallow { depth (filled (get nat_eq bodies.now) t.now) ≤ depth_limit }
     ensures ok { IfOk result (λ u. u ≡ filled (get nat_eq bodies.now) t.now) }
     ensures only_memory { IfErr result (λ e. e ≡ Memory) }
 {
@@ -118,7 +118,7 @@ fn fill_branches(
     bodies: &HashMap<u32, BoxTerm>,
     bs: &BoxBranches,
 ) -> Result<BoxBranches, PassFault>
-    requires shallow { depth_trees (filled_terms (get nat_eq bodies.now) (arms_of bs.now)) ≤ 2048 }
+    requires shallow { depth_trees (filled_terms (get nat_eq bodies.now) (arms_of bs.now)) ≤ depth_limit }
     ensures ok { IfOk result (λ xs. xs ≡ map (map_branch (filled (get nat_eq bodies.now))) bs.now) }
     ensures only_memory { IfErr result (λ e. e ≡ Memory) }
 {
@@ -143,7 +143,7 @@ fn fill_defs(
     bodies: &HashMap<u32, BoxTerm>,
     ds: &BoxDefs,
 ) -> Result<BoxDefs, PassFault>
-    requires shallow { depth_trees (filled_terms (get nat_eq bodies.now) (bodies_of (length ds.now) ds.now)) ≤ 2048 }
+    requires shallow { depth_trees (filled_terms (get nat_eq bodies.now) (bodies_of (length ds.now) ds.now)) ≤ depth_limit }
     ensures ok { IfOk result (λ xs. xs ≡ map (map_def (filled (get nat_eq bodies.now))) ds.now) }
     ensures only_memory { IfErr result (λ e. e ≡ Memory) }
 {

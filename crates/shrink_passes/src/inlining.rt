@@ -1,6 +1,7 @@
 //! The pass that puts constants with one use in its place.
 ghost use Rattle.std.specs.Prelude.{◌≡◌, ◌≤◌, ℕ, true, false, cond, IfOk, IfErr, OnOk, nat_eq, ◌∷◌, Some};
 ghost use Rattle.std.specs.HashMap.{get};
+ghost use Rattle.trees.specs.Measures.{depth_limit};
 ghost use Rattle.lambda_box.specs.BoxForm.{IsBoxProgram};
 ghost use Rattle.lambda_box.specs.OrdinaryForm.{IsOrdinaryProgram};
 ghost use Rattle.lambda_box.specs.SaturatedForm.{IsSaturated, program_nodes};
@@ -22,7 +23,7 @@ use std::collections::HashMap;
 /// The greatest depth among the constants' bodies and main.
 fn greatest_depth(p: &BoxProgram) -> u32
     ensures is { result ≡ deepest p.now }
-    ensures within { result ≤ 2048 }
+    ensures within { result ≤ depth_limit }
 {
     let mut most = p.main.depth();
     for d in p.constants.as_slice() {

@@ -1,7 +1,7 @@
 //! The parameters of constants that aren't used in their bodies.
 ghost use Rattle.std.specs.Prelude.{◌≡◌, ◌+◌, ◌<◌, ◌≤◌, ◌^◌, ◌&&◌, ℕ, false, length, nat_eq, reverse, IfOk, IfErr, OnOk};
 ghost use Rattle.std.specs.HashMap.{get};
-ghost use Rattle.trees.specs.Measures.{depth};
+ghost use Rattle.trees.specs.Measures.{depth, depth_limit};
 ghost use Rattle.box_terms.specs.BoxLists.{arms_of, bodies_of};
 ghost use Rattle.lambda_box.specs.declared.fault.PassFault.TheVariants.{Memory};
 ghost use Rattle.shrink_passes.specs.DropParams.{leading, is_unused};
@@ -80,7 +80,7 @@ fn pass_defs(spare: &mut Flags, ds: &BoxDefs, n: u64)
 /// For each variable of `n` lambdas round a term and of its own leading lambdas, the innermost first, whether it isn't used. Only `Memory`.
 #[cycle(spare_variables)]
 fn spare_variables(alloc: Global, t: &BoxTerm, n: u32) -> Result<Flags, PassFault>
-    requires room { n + depth t.now ≤ 2049 }
+    requires room { n + depth t.now ≤ depth_limit + 1 }
     ensures is { IfOk result (λ xs. (j : ℕ) → flag_at j xs ≡ is_spare n t.now j) }
     ensures len { IfOk result (λ xs. length xs ≡ n + leading t.now) }
     ensures only_memory { IfErr result (λ e. e ≡ Memory) }

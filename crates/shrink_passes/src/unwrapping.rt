@@ -2,7 +2,7 @@
 ghost use Rattle.std.specs.Prelude.{◌≡◌, ◌+◌, ◌-◌, ◌<◌, ◌≤◌, ℕ, true, false, if◌then◌else◌, IsTrue, IfOk, IfErr};
 ghost use Rattle.trees.specs.Tree.{Rel as variable};
 ghost use Rattle.trees.specs.Parallel.{put_all, substitute};
-ghost use Rattle.trees.specs.Measures.{depth, IsWithin};
+ghost use Rattle.trees.specs.Measures.{depth, depth_limit, IsWithin};
 ghost use Rattle.trees.specs.Closed.{Closed};
 ghost use Rattle.box_terms.specs.BoxSyntax.{Box, BLambda};
 ghost use Rattle.box_terms.specs.BoxView.{box_of};
@@ -20,7 +20,7 @@ use std::alloc::Global;
 
 /// The term of a node that is within the limits of terms. Only `Memory`.
 fn made(alloc: Global, node: BoxNode) -> Result<BoxTerm, PassFault>
-    requires shallow { depth (box_of node) ≤ 2048 }
+    requires shallow { depth (box_of node) ≤ depth_limit }
     ensures ok { IfOk result (λ t. t ≡ box_of node) }
     ensures only_memory { IfErr result (λ e. e ≡ Memory) }
 {
@@ -53,7 +53,7 @@ fn new_variable(alloc: Global, dropped: bool, n: u32) -> Result<BoxTerm, PassFau
 
 /// How many places there are with one more that is dropped or not.
 fn with_place(count: u32, dropped: bool) -> u32
-    requires room { count < 2048 }
+    requires room { count < depth_limit }
     ensures is { result ≡ count + (if dropped then 0 else 1) }
 {
     if dropped { count } else { count + 1 }
@@ -61,7 +61,7 @@ fn with_place(count: u32, dropped: bool) -> u32
 
 /// How many of the first `n` places aren't dropped.
 fn kept_places(dead: &Flags, n: usize) -> u32
-    requires small { n ≤ 2048 }
+    requires small { n ≤ depth_limit }
     ensures is { result ≡ kept (λ p. flag_at p dead.now) 0 n }
 {
     let mut count = 0;
@@ -74,7 +74,7 @@ fn kept_places(dead: &Flags, n: usize) -> u32
 /// What stands for the variables of the first `n` lambdas, the last one for the innermost. Only `Memory`.
 #[tactic(auto, using(std::proofs::lemmas::Grind::common_steps))]
 fn new_variables(alloc: Global, dead: &Flags, n: usize) -> Result<BoxTerms, PassFault>
-    requires small { n ≤ 2048 }
+    requires small { n ≤ depth_limit }
     ensures is { IfOk result (λ xs. xs ≡ variables (λ p. flag_at p dead.now) 0 n) }
     ensures only_memory { IfErr result (λ e. e ≡ Memory) }
 {
@@ -115,7 +115,7 @@ fn unwrap(
     p: usize,
     n: usize,
 ) -> Result<BoxTerm, PassFault>
-    requires small { p + n ≤ 2048 }
+    requires small { p + n ≤ depth_limit }
     requires within { IsWithin (wrapped (λ q. flag_at q dead.now) p n (put_all list.now variable) t.now) }
     ensures ok { IfOk result (λ u. u ≡ wrapped (λ q. flag_at q dead.now) p n (put_all list.now variable) t.now) }
     ensures only_memory { IfErr result (λ e. e ≡ Memory) }

@@ -1,5 +1,6 @@
 -- What the answers of an evaluation mean by the relation, over an accepted environment.
-use Rattle.std.proofs.Common.{◌≡◌, ℕ, zero, suc, ◌+◌, ◌-◌, ◌<◌, ◌≤◌, ◌⊎◌, inl, inr, Bool, true, false, IsTrue, Result, Ok, Err, sym, ap, ◌∙◌, arith}
+use Rattle.std.proofs.Common.{◌≡◌, ℕ, zero, suc, ◌+◌, ◌-◌, ◌<◌, ◌≤◌, ◌⊎◌, inl, inr, false, Result, Ok, Err, sym, ap, ◌∙◌, arith}
+use Rattle.std.proofs.lemmas.Bool.{false≢true}
 use Rattle.pc_terms.specs.Syntax.{Term}
 use Rattle.pc_rules.specs.declared.meter.Account.{Account}
 use Rattle.calculus_rules.specs.Environment.{Env}
@@ -31,10 +32,6 @@ ends_with E a t v n e u h =
 pub passes_none : (E : Env) → IsAccepted E → (t v : Term) (n : ℕ) (e : Evaluates E t v n) → StaysWithin e → (u : Account) → n ≤ u.left → (evaluation E t u).deep ≡ false
 passes_none E a t v n e s u h = ap (λ w. (evaluation E t w).deep) (with_nodes n u h) ∙ ap (λ r. r.deep) (runs E a t v n e s (less n u))
 
-not_deep : (b : Bool) → b ≡ false → IsTrue b → ⊥
-not_deep true e h = absurd cc
-not_deep false e h = absurd cc
-
 value_or : Evaluated → Term → Term
 value_or (Value v) w = v
 value_or (Stuck t) w = w
@@ -59,7 +56,7 @@ value_given : (E : Env) (t : Term) (u w : Account) → IsAccepted E → (v : Ter
     (r : Result Term EvalStop) → Answers (evaluation E t u) (evaluated r) w → IsValueOr v r
 value_given E t u w a v n e l s (Ok x) h = one_value (evaluation E t u).end x v w (less n u) h (ends_with E a t v n e u l)
 value_given E t u w a v n e l s (Err NoUnits) h = absurd (not_spent (evaluation E t u).end v (less n u) (ends_with E a t v n e u l) h.0)
-value_given E t u w a v n e l s (Err Deep) h = absurd (not_deep (evaluation E t u).deep (passes_none E a t v n e s u l) h)
+value_given E t u w a v n e l s (Err Deep) h = absurd (false≢true (sym (passes_none E a t v n e s u l) ∙ h))
 value_given E t u w a v n e l s (Err (Without x)) h = absurd (not_stuck (evaluation E t u).end v x (less n u) w (ends_with E a t v n e u l) h)
 value_given E t u w a v n e l s (Err NoMemory) h = tt
 

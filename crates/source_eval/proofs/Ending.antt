@@ -1,6 +1,5 @@
 -- How an evaluation answers.
-use Rattle.std.proofs.Common.{◌≡◌, ℕ, zero, suc, ◌+◌, ◌<◌, ◌↔◌, Bool, false, IsTrue, List, [], ◌∷◌, Result, Ok, Err, refl, sym, ap, ◌∙◌, subst as along, arith}
-use Rattle.std.proofs.lemmas.Bool.{false≢true}
+use Rattle.std.proofs.Common.{◌≡◌, ℕ, ◌+◌, ◌<◌, IsTrue, List, [], ◌∷◌, Result, Ok, Err, refl, sym, ap, ◌∙◌, subst as along, arith}
 use Rattle.pc_terms.specs.Syntax.{Term}
 use Rattle.pc_terms.specs.declared.term.MakeFault.{MakeFault}
 use Rattle.pc_terms.specs.declared.term.MakeFault.TheVariants.{TooDeep as DeepTerm, Memory as NoTerm}
@@ -26,8 +25,9 @@ use Rattle.source_eval.specs.declared.machine.Settled.{Settled}
 use Rattle.source_eval.specs.declared.machine.Settled.TheVariants.{Enter as Next, Value as Last, Stuck as Never}
 use Rattle.source_eval.specs.Waiting.{meeting, within, goes_on, rests, Comes, Settles, Passes}
 use Rattle.source_eval.specs.Evaluated.{eval_stop, evaluated, HasNoValue, StuckHasNoValue}
-use Rattle.source_eval.proofs.Leading.{leads_same, leads_trans, leads_within}
+use Rattle.source_eval.proofs.Leading.{leads_trans, leads_within}
 use Rattle.pc_rules.proofs.EvaluationNext.{evaluation_next}
+use Rattle.pc_rules.proofs.Leading.{leads_start as leads_same}
 
 -- the start
 pub leads_start : (E : Env) (t s : Term) (fs : List Frame) (u : Account) → s ≡ t → fs ≡ [] → Leads (evaluation E t u) (within E fs (evaluation E s u))
@@ -41,11 +41,6 @@ none_then E f r h = ap (λ x. end_then x (λ e u. (on_value e u (λ v w. meeting
 none_within : (E : Env) (fs : List Frame) (r : Run Evaluated) → r.end ≡ NoUnit → (within E fs r).end ≡ NoUnit
 none_within E [] r h = h
 none_within E (f ∷ fs) r h = none_then E f (within E fs r) (none_within E fs r h)
-
--- no unit is left
-pub none_left : (r : Bool) (n : ℕ) → (IsTrue r ↔ (0 < n)) → r ≡ false → n ≡ 0
-none_left r zero w e = refl
-none_left r (suc n) w e = absurd (false≢true (sym e ∙ w.1 (omega arith)))
 
 pub spent_follows : (d : Run Evaluated) (E : Env) (fs : List Frame) (t : Term) (m0 m1 m2 : Meter) → Leads d (within E fs (evaluation E t m1.account)) → IsAfter m0 m1 →
     m1.account.left ≡ 0 → m2.account ≡ ticked m1.account → m2.nest ≡ m1.nest → Follows d (evaluated (Err NoUnits)) m0 m2

@@ -1,7 +1,7 @@
 -- A run of the directed evaluation passes no limit, where what the evaluation makes is within them.
 use Rattle.std.proofs.Common.{◌≡◌, ℕ, suc, ◌+◌, ◌-◌, ◌^◌, ◌||◌, false, if◌then◌else◌, nat_lt, Option, Some, refl, sym, ap, ◌∙◌, subst as along, arith}
 use Rattle.std.proofs.lemmas.Bool.{le-ltb}
-use Rattle.trees.specs.Measures.{depth, above, IsWithin}
+use Rattle.trees.specs.Measures.{depth, above, depth_limit, IsWithin}
 use Rattle.pc_terms.specs.Syntax.{Term, Rel, Lambda, App, put, put_all, substitute, head, args}
 use Rattle.pc_rules.specs.declared.meter.Account.{Account}
 use Rattle.calculus_rules.specs.Environment.{Env}
@@ -21,7 +21,7 @@ use Rattle.source_eval.specs.StaysWithin.{StaysWithin}
 use Rattle.source_eval.specs.Waiting.{applied_other}
 
 not_beyond : (t : Term) → IsWithin t → is_beyond t ≡ false
-not_beyond t h = ap (λ b. b || nat_lt (2 ^ 32) (above t)) (le-ltb 2048 (depth t) h.0) ∙ le-ltb (2 ^ 32) (above t) h.1
+not_beyond t h = ap (λ b. b || nat_lt (2 ^ 32) (above t)) (le-ltb depth_limit (depth t) h.0) ∙ le-ltb (2 ^ 32) (above t) h.1
 
 made_within : (t : Term) (u : Account) → IsWithin t → make t u ≡ done t u
 made_within t u h = ap (λ b. made b t u) (not_beyond t h)

@@ -2,19 +2,16 @@
 use Rattle.std.proofs.Common.{◌≡◌, ℕ, ◌<◌, ◌≤◌, List, [], ◌∷◌, length, Bool, true, false, ◌||◌, eqb, refl, arith}
 use Rattle.std.specs.Prelude.{nat_eq, nat_lt, if◌then◌else◌}
 use Rattle.std.specs.List.{IsDistinct, list_any, AllByRecursion}
-use Rattle.std.proofs.lemmas.Bool.{ltb-true, eqb-true}
+use Rattle.std.proofs.lemmas.Bool.{ltb-true, eqb-true, true≢false}
 use Rattle.std.proofs.lemmas.Map.Steps.{length-le_from_distinct_below}
 use Rattle.anf_convert.specs.Captured.{is_in, add_word, captured}
-
-true_false : true ≡ false → ⊥
-true_false e = cc
 
 apart : (x : ℕ) (ws : List ℕ) → is_in x ws ≡ false → AllByRecursion (λ y. eqb x y ≡ false) ws
 apart x [] e = tt
 apart x (y ∷ ys) e = go (nat_eq x y) refl e (apart x ys)
   where
     go : (b : Bool) → nat_eq x y ≡ b → (if b then true else is_in x ys) ≡ false → (is_in x ys ≡ false → AllByRecursion (λ z. eqb x z ≡ false) ys) → AllByRecursion (λ z. eqb x z ≡ false) (y ∷ ys)
-    go true t e rest = absurd (true_false e)
+    go true t e rest = absurd (true≢false e)
     go false t e rest = (t, rest e)
 
 distinct : (d : ℕ) (xs : List ℕ) → IsDistinct eqb (captured d xs)

@@ -1,6 +1,7 @@
 -- Of the passed program: captured words are at most the binders of the saturated program, and at most the words of the program before the passes.
 use Rattle.std.proofs.Common.{◌≡◌, ◌⊎◌, ℕ, suc, ◌+◌, ◌-◌, ◌≤◌, List, [], ◌∷◌, length, false, refl, subst, inl, inr, arith}
 use Rattle.trees.specs.Tree.{Rel, Done, Next}
+use Rattle.trees.specs.Measures.{depth_limit}
 use Rattle.box_terms.specs.BoxSyntax.{BoxTerm, BoxTerms, Box, BLambda, BLetIn, BApp, BConst, BConstruct, BCase, BFix}
 use Rattle.lambda_box.specs.BoxProgram.{BoxConstant, BoxFamily, BoxProgram, Has, here, there}
 use Rattle.lambda_box.specs.BoxForm.{IsFixBody, boxed, last, more, AreFixBodies, HasBoxForm, HasBoxFormTerms, IsBoxProgram}
@@ -80,7 +81,7 @@ pub ready : (P : BoxProgram) → IsBoxProgram P → IsShallow P → CanBeConvert
 ready P form shallow =
     let S = shrunk_program P in
     let kept = shrunk_forms P form in
-    let depths = shrunk_shallow P form 2048 (constant_shallow (saturated_program P) shallow) (main_shallow (saturated_program P) shallow) in
+    let depths = shrunk_shallow P form depth_limit (constant_shallow (saturated_program P) shallow) (main_shallow (saturated_program P) shallow) in
     (data_kept S (to_anf S) refl (all_shallow S.constants depths.0) depths.1 kept.form kept.ordinary).0
 
 program_captures : (P : BoxProgram) (C : ℕ) → IsBoxProgram P → IsShallow P → ((d : BoxConstant) → Has (saturated_program P).constants d → Narrow C Empty d.body) → Narrow C Empty (saturated_program P).main →

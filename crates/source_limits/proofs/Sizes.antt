@@ -9,7 +9,7 @@ use Rattle.shrink_passes.specs.ShrunkProgram.{shrunk_program}
 use Rattle.shrink_passes.proofs.ShrunkPrograms.{shrunk_forms}
 use Rattle.anf_convert.specs.BoxForms.{ConstructorsWithin}
 use Rattle.anf_convert.specs.ToAnf.{to_anf}
-use Rattle.closure_lift.specs.NamedLift.{most_functions}
+use Rattle.closure_lift.specs.LiftedForm.{most_functions}
 use Rattle.closure_lift.specs.Lifting.{most_words}
 use Rattle.wasm_core.specs.ShortestBytes.{module_bytes}
 use Rattle.known_calls.specs.KnownModule.{module_of}

@@ -7,7 +7,7 @@ use Rattle.lambda_box.specs.DataTerms.{greatest_words}
 use Rattle.lambda_box.specs.SaturatedForm.{program_nodes}
 use Rattle.box_passes.specs.PassLaws.{saturated_program}
 use Rattle.box_passes.specs.PassResults.{IsDeep}
-use Rattle.closure_lift.specs.NamedLift.{most_functions}
+use Rattle.closure_lift.specs.LiftedForm.{most_functions}
 use Rattle.wasm_core.specs.ShortestBytes.{module_bytes}
 use Rattle.known_calls.specs.KnownModule.{module_of}
 use Rattle.known_calls.specs.KnownCalls.{module_of_call}

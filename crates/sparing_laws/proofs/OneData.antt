@@ -7,6 +7,7 @@ use Rattle.calculus_rules.specs.Conversion.{Equal, back, chain}
 use Rattle.calculus_rules.specs.Step.{IsConstructor, is_constructor}
 use Rattle.calculus_rules.specs.FirstOrder.{Shape, Data, Reads, reads, ReadsAll, no_field, field}
 use Rattle.calculus_rules.specs.Accepted.{IsAccepted}
+use Rattle.calculus_rules.proofs.Listing.{first_same, rest_same}
 use Rattle.calculus_rules.proofs.OneEach.{one_of_each}
 use Rattle.calculus_rules.proofs.Spines.{one_item}
 use Rattle.typing_laws.proofs.Traversal.{equal_at}
@@ -33,12 +34,6 @@ same_constructor {E} h {f} {c} {k} {v} {w} {qs} {xs} {ps} {ys} e (is_constructor
 as_many : {E : Env} {xs ys : List Term} → EqualEach E [] xs ys → length xs ≡ length ys
 as_many no_terms = refl
 as_many (a_term p ps) = ap suc (as_many ps)
-
-first_same : {i j : ℕ} {is js : List ℕ} → (i ∷ is) ≡ (j ∷ js) → i ≡ j
-first_same e = cc
-
-rest_same : {i j : ℕ} {is js : List ℕ} → (i ∷ is) ≡ (j ∷ js) → is ≡ js
-rest_same e = cc
 
 mutual
   pub one_data : {E : Env} → IsAccepted E → {S : List Shape} {i j : ℕ} {v w : Term} {d e : Data} → i ≡ j → Equal E [] v w → Reads E S i v d → Reads E S j w e → d ≡ e

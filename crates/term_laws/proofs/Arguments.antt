@@ -1,14 +1,11 @@
 -- Terms applied to lists of arguments.
 use Rattle.std.specs.List.{All}
-use Rattle.std.proofs.Common.{map, ◌≡◌, ℕ, zero, suc, List, [], ◌∷◌, ◌++◌, refl, ap, ◌∙◌, arith}
+use Rattle.std.proofs.Common.{map, ◌≡◌, ℕ, zero, suc, List, [], ◌∷◌, refl, ap, ◌∙◌, arith}
 use Rattle.std.proofs.lemmas.List.Elements.{All-append, All-nil}
 use Rattle.trees.specs.Substitution.{walk}
 use Rattle.pc_terms.specs.Syntax as s
 use Rattle.pc_terms.specs.Formed.{IsFormed}
-
-pub apply-append : (f : s.Term) (xs ys : List s.Term) → s.apply f (xs ++ ys) ≡ s.apply (s.apply f xs) ys
-apply-append f [] ys = refl
-apply-append f (x ∷ xs) ys = apply-append (s.App f x) xs ys
+use Rattle.pc_terms.proofs.Applied.{apply-append}
 
 pub spine-whole : (t : s.Term) → s.apply (s.head t) (s.args t) ≡ t
 spine-whole (s.App f a) = apply-append (s.head f) (s.args f) (a ∷ []) ∙ ap (λ g. s.App g a) (spine-whole f)

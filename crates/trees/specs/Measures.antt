@@ -62,12 +62,16 @@ abbrev mutual
   above_trees Done = 0
   above_trees (Next n t ts) = max (above t) (above_trees ts)
 
--- the limits of a tree in memory: depth at most 2,048, and variable numbers of 32 bits
+-- the greatest depth of a tree in memory
+abbrev pub depth_limit : ℕ
+depth_limit = 2048
+
+-- the limits of a tree in memory: that depth, and variable numbers of 32 bits
 abbrev pub IsWithin : {L : Type 0} {slots : L → List Slot} → Tree L slots → Type 0
-IsWithin t = (depth t ≤ 2048) × (above t ≤ 2 ^ 32)
+IsWithin t = (depth t ≤ depth_limit) × (above t ≤ 2 ^ 32)
 
 abbrev pub IsBeyond : {L : Type 0} {slots : L → List Slot} → Tree L slots → Type 0
-IsBeyond t = (2048 < depth t) ⊎ (2 ^ 32 < above t)
+IsBeyond t = (depth_limit < depth t) ⊎ (2 ^ 32 < above t)
 
 abbrev pub AreBeyond : {L : Type 0} {slots : L → List Slot} → Trees L slots → Type 0
-AreBeyond ts = (2048 < depth_trees ts) ⊎ (2 ^ 32 < above_trees ts)
+AreBeyond ts = (depth_limit < depth_trees ts) ⊎ (2 ^ 32 < above_trees ts)

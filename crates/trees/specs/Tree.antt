@@ -28,6 +28,11 @@ abbrev pub terms_of : {L : Type 0} {slots : L → List Slot} → List (Tree L sl
 terms_of [] = Done
 terms_of (t ∷ xs) = Next 0 t (terms_of xs)
 
+-- the terms of a list, without their numbers of variables
+abbrev pub list_of : {L : Type 0} {slots : L → List Slot} → Trees L slots → List (Tree L slots)
+list_of Done = []
+list_of (Next n t ts) = t ∷ list_of ts
+
 abbrev pub number : {L : Type 0} {slots : L → List Slot} → Trees L slots → ℕ
 number Done = 0
 number (Next n t ts) = suc (number ts)

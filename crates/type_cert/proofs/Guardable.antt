@@ -1,11 +1,10 @@
 -- What the guard of a fixpoint is asked for, once its types and its definitions have been walked.
 use Rattle.std.proofs.Common.{◌≡◌, ◌∙◌, sym, ap, subst, ℕ, suc, List, [], ◌∷◌, length, Some, Ok, arith}
 use Rattle.pc_terms.specs.Formed.{binders_of, IsFormed}
-use Rattle.pc_terms.specs.Syntax.{Term, Terms, Done, Next, Ind, Fix, apply, head, args, number, shift}
+use Rattle.pc_terms.specs.Syntax.{Term, Terms, Done, Next, Ind, Fix, apply, head, args, number, shift, list_of}
 use Rattle.calculus_rules.specs.Environment.{Env}
 use Rattle.calculus_rules.specs.Context.{Context, values, under}
 use Rattle.calculus_rules.specs.Instances.{definitions}
-use Rattle.calculus_rules.specs.Listed.{list_of}
 use Rattle.calculus_rules.specs.Typing.{Types, bare, fix}
 use Rattle.calculus_rules.specs.WeakHead.{IsWhnf}
 use Rattle.calculus_rules.proofs.Bare.{bare_sorts, bare_bodies}

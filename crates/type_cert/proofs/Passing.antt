@@ -27,9 +27,9 @@ use Rattle.type_cert.specs.declared.pace.Pace.{Pace}
 use Rattle.type_cert.specs.declared.trail.Trail.{Trail}
 use Rattle.type_cert.specs.Passes.{paced, pace_of, one_on, Passes, AllPass, FirstPass, prefix_term, body_trees}
 use Rattle.type_cert.specs.Retraces.{stand, Retraces}
-use Rattle.type_cert.proofs.Retracing.{on_end}
 use Rattle.std.proofs.lemmas.Bool.{and_from}
 use Rattle.pc_rules.proofs.WeakNext.{both_true}
+use Rattle.cert_rules.proofs.Traces.{on_passed}
 
 -- lists of scripts
 
@@ -40,7 +40,7 @@ none_passes p = record { end = λ u. refl; less = omega arith }
 pub then_passes : (act : WalkAct) (acts : List WalkAct) (p r q : Pace) → Passes act p r → Passes (walk_all acts) r q → Passes (walk_all (act ∷ acts)) p q
 unfolding walk_all
 then_passes act acts p r q f g = record {
-  end = λ u. on_end (act (paced u p)) (λ _ v. walk_all acts v) tt (paced u r) (f.end u) ∙ g.end u;
+  end = λ u. on_passed (act (paced u p)) (λ _ v. walk_all acts v) tt (paced u r) (f.end u) ∙ g.end u;
   less = (let h = f.less in let k = g.less in omega arith);
 }
 
@@ -176,7 +176,7 @@ module _ (E : Env) (t : Test) (go : Script) (V : Values) (equal : Bool) (a b : T
       ((item : ℕ) (u : Account) → (walk_steps E V item n a (paced u (one_on p))).end ≡ Passed w (paced u r)) → r.left ≤ p.left → Passes (go V equal w b) r q → Passes (script_by E t go o V equal a b) p q
   left_passes o zero w p r q e h k l f = absurd (omega arith)
   left_passes o (suc n) w p r q e h k l f = record {
-    end = λ u. rw e (on_end (walk_steps E V p.at (suc n) a (paced u (one_on p))) (λ x v. go V equal x b v) w (paced u r) (k p.at u) ∙ f.end u);
+    end = λ u. rw e (on_passed (walk_steps E V p.at (suc n) a (paced u (one_on p))) (λ x v. go V equal x b v) w (paced u r) (k p.at u) ∙ f.end u);
     less = (let g = f.less in omega arith);
   }
 
@@ -184,7 +184,7 @@ module _ (E : Env) (t : Test) (go : Script) (V : Values) (equal : Bool) (a b : T
       ((item : ℕ) (u : Account) → (walk_steps E V item n b (paced u (one_on p))).end ≡ Passed w (paced u r)) → r.left ≤ p.left → Passes (go V equal a w) r q → Passes (script_by E t go o V equal a b) p q
   right_passes o zero w p r q e h k l f = absurd (omega arith)
   right_passes o (suc n) w p r q e h k l f = record {
-    end = λ u. rw e (on_end (walk_steps E V p.at (suc n) b (paced u (one_on p))) (λ y v. go V equal a y v) w (paced u r) (k p.at u) ∙ f.end u);
+    end = λ u. rw e (on_passed (walk_steps E V p.at (suc n) b (paced u (one_on p))) (λ y v. go V equal a y v) w (paced u r) (k p.at u) ∙ f.end u);
     less = (let g = f.less in omega arith);
   }
 

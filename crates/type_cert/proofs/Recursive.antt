@@ -1,14 +1,10 @@
 -- Recursive arguments of two lists of definitions, from an item on.
-use Rattle.std.proofs.Common.{◌≡◌, ◌≢◌, ◌∙◌, ap, refl, ℕ, suc, ◌<◌, ◌≤◌, ◌+◌, ◌==◌, ◌&&◌, Bool, true, false, List, [], ◌∷◌, length, drop, get_or, eq-eqb}
+use Rattle.std.proofs.Common.{◌≡◌, ◌≢◌, ◌∙◌, ap, refl, ℕ, ◌<◌, ◌≤◌, ◌+◌, ◌==◌, ◌&&◌, Bool, true, false, List, length, drop, get_or, eq-eqb}
 use Rattle.std.proofs.lemmas.Bool.{ne_eqb}
 use Rattle.pc_terms.specs.Lists.{rargs_of}
 use Rattle.pc_terms.specs.declared.term.Def.{Def}
 use Rattle.calculus_rules.specs.Same.{same_numbers}
 use Rattle.pc_rules.proofs.ListSteps.{next_is, none_left}
-
-and_false : (a b : Bool) → b ≡ false → (a && b) ≡ false
-and_false true b e = e
-and_false false b e = refl
 
 module _ (ds es : List Def) (i : ℕ) (d e : Def) (h : i < length ds) (k : i < length es) (p : d ≡ get_or ds i d) (p' : e ≡ get_or es i e) where
   abbrev rest_rargs : ℕ → Bool
@@ -25,9 +21,3 @@ module _ (ds es : List Def) (i : ℕ) (d e : Def) (h : i < length ds) (k : i < l
 
 pub rargs_end : (ds es : List Def) (i : ℕ) → length ds ≤ i → length es ≤ i → same_numbers (rargs_of (drop i ds)) (rargs_of (drop i es)) ≡ true
 rargs_end ds es i h k = λ j. same_numbers (rargs_of (none_left ds i h j)) (rargs_of (none_left es i k j))
-
-pub rargs_other : (ds es : List Def) → length ds ≢ length es → same_numbers (rargs_of ds) (rargs_of es) ≡ false
-rargs_other [] [] h = absurd (h refl)
-rargs_other [] (e ∷ es) h = refl
-rargs_other (d ∷ ds) [] h = refl
-rargs_other (d ∷ ds) (e ∷ es) h = and_false (d.rarg == e.rarg) _ (rargs_other ds es (λ x. h (ap suc x)))

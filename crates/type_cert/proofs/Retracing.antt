@@ -20,24 +20,21 @@ use Rattle.type_cert.specs.declared.halt.WalkHalt.{WalkHalt}
 use Rattle.type_cert.specs.declared.halt.WalkHalt.TheVariants as walks
 use Rattle.type_cert.specs.declared.trail.Trail.{Trail}
 use Rattle.type_cert.specs.Retraces.{stand, WalkHalts, WalkAnswers, Retraces, halt_at, barred_at, passed_with, at_number}
-use Rattle.std.proofs.Math.Bool.{or_assoc}
+use Rattle.std.proofs.Math.Bool.{or_assoc, or-false}
+use Rattle.cert_rules.proofs.Traces.{on_passed}
 
--- the end of a walk whose first part passes, and whether it has passed a limit
-pub on_end : {A B : Type 0} (d : Walk A) (k : A → WalkState → Walk B) (a : A) (s : WalkState) → d.end ≡ Passed a s → (walk_on d k).end ≡ (k a s).end
-unfolding walk_on
-on_end d k a s e = ap (λ x. end_on x (λ a s. (k a s).end)) e
-
+-- whether a walk whose first part passes has passed a limit
 pub on_deep : {A B : Type 0} (d : Walk A) (k : A → WalkState → Walk B) (a : A) (s : WalkState) → d.end ≡ Passed a s → IsTrue (k a s).deep → IsTrue (walk_on d k).deep
 unfolding walk_on
 on_deep d k a s e h = or_right d.deep _ (rw e h)
 
 pub answers_more : {A B : Type 0} (d : Walk A) (k : A → WalkState → Walk B) (a : A) (s x : WalkState) (r : Result B WalkHalt) → d.end ≡ Passed a s → WalkAnswers (k a s) r x →
     WalkAnswers (walk_on d k) r x
-answers_more d k a s x (Ok b) e h = on_end d k a s e ∙ h
-answers_more d k a s x (Err (walks.Stop Spent)) e h = (on_end d k a s e ∙ h.0, h.1)
+answers_more d k a s x (Ok b) e h = on_passed d k a s e ∙ h
+answers_more d k a s x (Err (walks.Stop Spent)) e h = (on_passed d k a s e ∙ h.0, h.1)
 answers_more d k a s x (Err (walks.Stop TooDeep)) e h = on_deep d k a s e h
 answers_more d k a s x (Err (walks.Stop Memory)) e h = tt
-answers_more d k a s x (Err (walks.Barred i)) e h = on_end d k a s e ∙ h
+answers_more d k a s x (Err (walks.Barred i)) e h = on_passed d k a s e ∙ h
 
 pub answers_err : {A B : Type 0} (d : Walk A) (k : A → WalkState → Walk B) (u : Account) (h : WalkHalt) → WalkHalts d h u → WalkHalts (walk_on d k) h u
 unfolding walk_on
@@ -198,18 +195,13 @@ retraces_entered go r t0 t1 t2 t3 t4 h e n e2 n2 g p e4 n4 g4 =
     (record { answer = w'; after = after-trans t0.meter t1.meter t4.meter (after-tick t0.meter t1.meter e n) (nest_after t1 t2 t3 t4 n2 e2 p.after e4 n4) })
 
 -- one after the other is the same however they are grouped
-
-or_false : (a : Bool) → (a || false) ≡ a
-or_false true = refl
-or_false false = refl
-
 module _ {A B C : Type 0} (f : A → WalkState → Walk B) (g : B → WalkState → Walk C) where
   assoc_at : (e : WalkEnd A) (b : Bool) → walk_on (walk_on (record { end = e; deep = b }) f) g ≡ walk_on (record { end = e; deep = b }) (λ a s. walk_on (f a s) g)
   unfolding walk_on
   assoc_at (Passed a s) b = λ i. record { end = (walk_on (f a s) g).end; deep = or_assoc b (f a s).deep (deep_on (f a s).end (λ x v. (g x v).deep)) i }
-  assoc_at (Barred j u) b = λ i. record { end = Barred j u; deep = or_false (b || false) i }
-  assoc_at Unpaid b = λ i. record { end = Unpaid; deep = or_false (b || false) i }
-  assoc_at Crowded b = λ i. record { end = Crowded; deep = or_false (b || false) i }
+  assoc_at (Barred j u) b = λ i. record { end = Barred j u; deep = or-false (b || false) i }
+  assoc_at Unpaid b = λ i. record { end = Unpaid; deep = or-false (b || false) i }
+  assoc_at Crowded b = λ i. record { end = Crowded; deep = or-false (b || false) i }
 
   pub walk_assoc : (d : Walk A) → walk_on (walk_on d f) g ≡ walk_on d (λ a s. walk_on (f a s) g)
   walk_assoc d = assoc_at d.end d.deep

@@ -1,5 +1,6 @@
 -- How a script goes along its item.
-use Rattle.std.proofs.Common.{◌≡◌, ◌∙◌, sym, ap, refl, subst, ℕ, zero, suc, ◌<◌, ◌-◌, ◌+◌, ◌||◌, ◌&&◌, ◌==◌, Result, Ok, Err, Bool, true, false, if◌then◌else◌, List, [], ◌∷◌, length, Some, None, arith, slice_get}
+use Rattle.std.proofs.Common.{◌≡◌, ◌∙◌, sym, ap, refl, subst, ℕ, zero, suc, ◌<◌, ◌-◌, ◌+◌, ◌||◌, ◌==◌, Result, Ok, Err, Bool, true, false, if◌then◌else◌, List, [], ◌∷◌, length, Some, None, arith, slice_get}
+use Rattle.std.proofs.Math.Bool.{and-true}
 use Rattle.pc_terms.specs.Syntax.{Label, SortOf, ProdOf, LambdaOf, LetInOf, AppOf, ConstOf, IndOf, ConstructOf, CaseOf, FixOf, slots, Children, End, Child, Group, Node, Term, Rel, SortT, Prod, Lambda, LetIn, App, Const, Ind, Construct, Case, Fix}
 use Rattle.pc_rules.specs.declared.stop.Stop.TheVariants.{TooDeep}
 use Rattle.calculus_rules.specs.Environment.{Env}
@@ -191,10 +192,6 @@ unfolding walk_all
 leaf_end i true t = retraces_pass tt t
 leaf_end i false t = retraces_bar i t
 
-and_end : (x : Bool) → (x && true) ≡ x
-and_end true = refl
-and_end false = refl
-
 -- two terms of which being the same is having one label, with no parts
 leaf_goes : (i : ℕ) (go : Script) (V : Values) (equal : Bool) (a b : Term) (x : Bool) (t : Trail) → same a b ≡ x → parts_of go V equal a b ≡ (if x then Some [] else None) →
     Retraces (parts_here i go V equal (stand t) a b) (leaf_answer (same a b) i) t t
@@ -241,13 +238,13 @@ module _ (i : ℕ) (go : Script) (V : Values) (equal : Bool) (t : Trail) where
       Retraces (parts_here i go V equal (stand t) (Node l ts) (Node m us)) (leaf_answer (same (Node l ts) (Node m us)) i) t t
   unfolding same
   leaf_labels (SortOf s) (SortOf r) End End h e =
-      leaf_goes i go V equal (SortT s) (SortT r) (same_labels (SortOf s) (SortOf r)) t (and_end (same_labels (SortOf s) (SortOf r))) refl
+      leaf_goes i go V equal (SortT s) (SortT r) (same_labels (SortOf s) (SortOf r)) t (and-true (same_labels (SortOf s) (SortOf r))) refl
   leaf_labels (ConstOf k) (ConstOf l) End End h e =
-      leaf_goes i go V equal (Const k) (Const l) (same_labels (ConstOf k) (ConstOf l)) t (and_end (same_labels (ConstOf k) (ConstOf l))) refl
+      leaf_goes i go V equal (Const k) (Const l) (same_labels (ConstOf k) (ConstOf l)) t (and-true (same_labels (ConstOf k) (ConstOf l))) refl
   leaf_labels (IndOf f) (IndOf g) End End h e =
-      leaf_goes i go V equal (Ind f) (Ind g) (same_labels (IndOf f) (IndOf g)) t (and_end (same_labels (IndOf f) (IndOf g))) refl
+      leaf_goes i go V equal (Ind f) (Ind g) (same_labels (IndOf f) (IndOf g)) t (and-true (same_labels (IndOf f) (IndOf g))) refl
   leaf_labels (ConstructOf f n) (ConstructOf g m) End End h e =
-      leaf_goes i go V equal (Construct f n) (Construct g m) (same_labels (ConstructOf f n) (ConstructOf g m)) t (and_end (same_labels (ConstructOf f n) (ConstructOf g m))) refl
+      leaf_goes i go V equal (Construct f n) (Construct g m) (same_labels (ConstructOf f n) (ConstructOf g m)) t (and-true (same_labels (ConstructOf f n) (ConstructOf g m))) refl
   leaf_labels ProdOf m (Child A (Child B End)) us h e = absurd h
   leaf_labels LambdaOf m (Child A (Child B End)) us h e = absurd h
   leaf_labels LetInOf m (Child b (Child B (Child c End))) us h e = absurd h

@@ -4,7 +4,7 @@ use Rattle.universe_levels.specs.declared.sort.Sort.{Sort}
 use Rattle.trees.specs.Measures.{IsBeyond}
 use Rattle.trees.specs.Substitution.{lift}
 use Rattle.trees.proofs.Cutoffs.{lift-shift}
-use Rattle.pc_terms.specs.Syntax.{Term, first, put_all, substitute, shift, head}
+use Rattle.pc_terms.specs.Syntax.{Term, first, put_all, substitute, shift, head, list_of}
 use Rattle.pc_terms.proofs.Parts.{rargs_length}
 use Rattle.pc_terms.specs.Lists.{arms_of, rargs_of, types_of, bodies_of}
 use Rattle.pc_terms.specs.declared.term.Branch.{Branch}
@@ -16,7 +16,6 @@ use Rattle.calculus_rules.specs.declared.entry.Entry.TheVariants.{Assumed}
 use Rattle.pc_terms.specs.declared.leaf.FamilyId.{FamilyId}
 use Rattle.calculus_rules.specs.Environment.{Env}
 use Rattle.calculus_rules.specs.Context.{Context, values}
-use Rattle.calculus_rules.specs.Listed.{list_of}
 use Rattle.pc_rules.specs.Stops.{stop_of}
 use Rattle.pc_rules.specs.DirectedRun.{make}
 use Rattle.pc_rules.specs.DirectedTyping.{recursive_domain, enough_abstractions, is_a_family}
@@ -25,12 +24,12 @@ use Rattle.cert_rules.specs.Walk.{Items, WalkState, Walk, WalkAct, pass, walk_on
 use Rattle.cert_rules.specs.WalkSteps.{reduced}
 use Rattle.cert_rules.specs.Scripts.{Script}
 use Rattle.cert_rules.specs.WalkTyping.{Walking, walk_sort_of, walk_sorts_of, walk_check, walk_check_all, walk_branch, walk_branches, walk_types, walk_family_found, walk_definition, walk_definitions}
-use Rattle.type_infer.proofs.Matching.{put_more}
 use Rattle.type_cert.specs.declared.halt.WalkHalt.{WalkHalt}
 use Rattle.type_cert.specs.declared.halt.WalkHalt.TheVariants as walks
 use Rattle.type_cert.specs.declared.trail.Trail.{Trail}
 use Rattle.type_cert.specs.Retraces.{stand, Retraces}
 use Rattle.type_cert.proofs.Retracing.{retraces_on, retraces_err, retraces_pass, retraces_bar, retraces_then, retraces_else, retraces_made, retraces_fault, walk_assoc, pass_on}
+use Rattle.calculus_rules.proofs.Spines.{put_more}
 
 -- the entries of a telescope
 

@@ -2,7 +2,7 @@
 use Rattle.std.specs.Prelude.{ℕ, zero, suc, Bool, List, Option, Some, length}
 use Rattle.universe_levels.specs.declared.sort.Sort.{Sort}
 use Rattle.trees.specs.Tree.{terms_of}
-use Rattle.pc_terms.specs.Syntax.{Term}
+use Rattle.pc_terms.specs.Syntax.{Term, list_of}
 use Rattle.pc_terms.specs.Lists.{arms_of, types_of, bodies_of, rargs_of}
 use Rattle.pc_terms.specs.declared.term.Branch.{Branch}
 use Rattle.pc_terms.specs.declared.term.Def.{Def}
@@ -11,7 +11,6 @@ use Rattle.calculus_rules.specs.declared.declaration.Block.{Block}
 use Rattle.calculus_rules.specs.declared.declaration.Constructor.{Constructor}
 use Rattle.calculus_rules.specs.Environment.{Env, FamilyDecl}
 use Rattle.calculus_rules.specs.Context.{Context, Values, values}
-use Rattle.calculus_rules.specs.Listed.{list_of}
 use Rattle.pc_rules.specs.Entailment.{test_of}
 use Rattle.cert_rules.specs.declared.item.CertItem.{CertItem}
 use Rattle.cert_rules.specs.Walk.{WalkState, Walk, WalkAct, pass, bar_here, past, walk_on}

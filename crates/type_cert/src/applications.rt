@@ -1,5 +1,6 @@
 //! Applications: rule 6, which puts the arguments in all at once where the types of functions are written as products (`type_infer`: `pending`).
 ghost use Rattle.std.specs.Prelude.{◌≡◌, ◌+◌, Ok, IfOk, IfErr};
+ghost use Rattle.pc_rules.specs.DirectedRun.{most_nested};
 ghost use Rattle.cert_rules.specs.Walk.{Walk, walk_on};
 ghost use Rattle.type_infer.specs.Ready.{IsReady};
 ghost use Rattle.type_cert.specs.Retraces.{Retraces, stand};
@@ -32,7 +33,7 @@ impl<G: Guarder> TypeWalk<'_, G> {
         argument: &Term,
         trail: &mut Trail,
     ) -> Result<Term, WalkHalt>
-        requires nest { self.now.verifier.room + trail.old.meter.nest ≡ 2048 }
+        requires nest { self.now.verifier.room + trail.old.meter.nest ≡ most_nested }
         requires ready { IsReady self.now.verifier.env.now ctx.now }
         ensures retraces { Retraces (app_walk self.now.verifier ctx.now function.now argument.now (stand trail.old)) result trail.old trail.new }
     {
@@ -50,7 +51,7 @@ impl<G: Guarder> TypeWalk<'_, G> {
         argument: &Term,
         trail: &mut Trail,
     ) -> Result<PendingType, WalkHalt>
-        requires nest { self.now.verifier.room + trail.old.meter.nest ≡ 2048 }
+        requires nest { self.now.verifier.room + trail.old.meter.nest ≡ most_nested }
         requires ready { IsReady self.now.verifier.env.now ctx.now }
         ensures retraces { RetracesPending (app_walk self.now.verifier ctx.now function.now argument.now (stand trail.old)) result trail.old trail.new }
     {
@@ -79,7 +80,7 @@ impl<G: Guarder> TypeWalk<'_, G> {
         domain: &Term,
         trail: &mut Trail,
     ) -> Result<(), WalkHalt>
-        requires nest { self.now.verifier.room + trail.old.meter.nest ≡ 2048 }
+        requires nest { self.now.verifier.room + trail.old.meter.nest ≡ most_nested }
         requires ready { IsReady self.now.verifier.env.now ctx.now }
         ensures ok { IfOk result (λ _. Retraces (checking self.now.verifier ctx.now argument.now (subst_list 0 ty.now.arguments domain.now) (stand trail.old)) (Ok tt) trail.old trail.new) }
         ensures err { IfErr result (λ h. HaltsMaking (subst_list 0 ty.now.arguments domain.now) (checking self.now.verifier ctx.now argument.now (subst_list 0 ty.now.arguments domain.now) (stand trail.old)) h trail.old trail.new) }
@@ -105,7 +106,7 @@ impl<G: Guarder> TypeWalk<'_, G> {
         argument: &Term,
         trail: &mut Trail,
     ) -> Result<PendingType, WalkHalt>
-        requires nest { self.now.verifier.room + trail.old.meter.nest ≡ 2048 }
+        requires nest { self.now.verifier.room + trail.old.meter.nest ≡ most_nested }
         requires ready { IsReady self.now.verifier.env.now ctx.now }
         ensures retraces { (d : Walk Term) (t : Trail) → RetracesPending d (Ok ty.now) t trail.old → RetracesPending (walk_on d (reduced_walk self.now.verifier ctx.now argument.now)) result t trail.new }
     {
@@ -123,7 +124,7 @@ impl<G: Guarder> TypeWalk<'_, G> {
         argument: &Term,
         trail: &mut Trail,
     ) -> Result<PendingType, WalkHalt>
-        requires nest { self.now.verifier.room + trail.old.meter.nest ≡ 2048 }
+        requires nest { self.now.verifier.room + trail.old.meter.nest ≡ most_nested }
         requires ready { IsReady self.now.verifier.env.now ctx.now }
         ensures retraces { RetracesPending (reduced_walk self.now.verifier ctx.now argument.now ty (stand trail.old)) result trail.old trail.new }
     {
@@ -148,7 +149,7 @@ impl<G: Guarder> TypeWalk<'_, G> {
         t: &Term,
         trail: &mut Trail,
     ) -> Result<PendingType, WalkHalt>
-        requires nest { self.now.verifier.room + trail.old.meter.nest ≡ 2048 }
+        requires nest { self.now.verifier.room + trail.old.meter.nest ≡ most_nested }
         requires ready { IsReady self.now.verifier.env.now ctx.now }
         ensures retraces { RetracesPending (inferring self.now.verifier ctx.now t.now (stand trail.old)) result trail.old trail.new }
     {
@@ -171,7 +172,7 @@ impl<G: Guarder> TypeWalk<'_, G> {
         t: &Term,
         trail: &mut Trail,
     ) -> Result<PendingType, WalkHalt>
-        requires nest { self.now.verifier.room + trail.old.meter.nest ≡ 2048 }
+        requires nest { self.now.verifier.room + trail.old.meter.nest ≡ most_nested }
         requires ready { IsReady self.now.verifier.env.now ctx.now }
         ensures retraces { RetracesPending (inferring self.now.verifier ctx.now t.now (stand trail.old)) result trail.old trail.new }
     {
@@ -189,7 +190,7 @@ impl<G: Guarder> TypeWalk<'_, G> {
         argument: &Term,
         trail: &mut Trail,
     ) -> Result<PendingType, WalkHalt>
-        requires nest { self.now.verifier.room + trail.old.meter.nest ≡ 2048 }
+        requires nest { self.now.verifier.room + trail.old.meter.nest ≡ most_nested }
         requires ready { IsReady self.now.verifier.env.now ctx.now }
         ensures retraces { RetracesPending (inferring self.now.verifier ctx.now (App function.now argument.now) (stand trail.old)) result trail.old trail.new }
     {

@@ -1,5 +1,6 @@
 //! Products, lambdas and lets: rules 3 to 5.
 ghost use Rattle.std.specs.Prelude.{◌≡◌, ◌+◌};
+ghost use Rattle.pc_rules.specs.DirectedRun.{most_nested};
 ghost use Rattle.type_infer.specs.Ready.{IsReady};
 ghost use Rattle.type_cert.specs.Retraces.{Retraces, stand};
 ghost use Rattle.type_cert.specs.Going.{prod_walk, lambda_walk, let_walk};
@@ -25,7 +26,7 @@ impl<G: Guarder> TypeWalk<'_, G> {
         codomain: &Term,
         trail: &mut Trail,
     ) -> Result<Term, WalkHalt>
-        requires nest { self.now.verifier.room + trail.old.meter.nest ≡ 2048 }
+        requires nest { self.now.verifier.room + trail.old.meter.nest ≡ most_nested }
         requires ready { IsReady self.now.verifier.env.now ctx.now }
         ensures retraces { Retraces (prod_walk self.now.verifier ctx.now domain.now codomain.now (stand trail.old)) result trail.old trail.new }
     {
@@ -46,7 +47,7 @@ impl<G: Guarder> TypeWalk<'_, G> {
         body: &Term,
         trail: &mut Trail,
     ) -> Result<Term, WalkHalt>
-        requires nest { self.now.verifier.room + trail.old.meter.nest ≡ 2048 }
+        requires nest { self.now.verifier.room + trail.old.meter.nest ≡ most_nested }
         requires ready { IsReady self.now.verifier.env.now ctx.now }
         ensures retraces { Retraces (lambda_walk self.now.verifier ctx.now domain.now body.now (stand trail.old)) result trail.old trail.new }
     {
@@ -67,7 +68,7 @@ impl<G: Guarder> TypeWalk<'_, G> {
         body: &Term,
         trail: &mut Trail,
     ) -> Result<Term, WalkHalt>
-        requires nest { self.now.verifier.room + trail.old.meter.nest ≡ 2048 }
+        requires nest { self.now.verifier.room + trail.old.meter.nest ≡ most_nested }
         requires ready { IsReady self.now.verifier.env.now ctx.now }
         ensures retraces { Retraces (let_walk self.now.verifier ctx.now value.now ty.now body.now (stand trail.old)) result trail.old trail.new }
     {

@@ -1,5 +1,6 @@
 //! The branches of a match.
 ghost use Rattle.std.specs.Prelude.{◌≡◌, ◌+◌};
+ghost use Rattle.pc_rules.specs.DirectedRun.{most_nested};
 ghost use Rattle.type_infer.specs.Ready.{IsReady};
 ghost use Rattle.type_cert.specs.Retraces.{Retraces, stand};
 ghost use Rattle.type_cert.specs.Going.{branch_walk, branches_walk};
@@ -29,7 +30,7 @@ impl<G: Guarder> TypeWalk<'_, G> {
         body: &Term,
         trail: &mut Trail,
     ) -> Result<(), WalkHalt>
-        requires nest { self.now.verifier.room + trail.old.meter.nest ≡ 2048 }
+        requires nest { self.now.verifier.room + trail.old.meter.nest ≡ most_nested }
         requires ready { IsReady self.now.verifier.env.now ctx.now }
         ensures retraces { Retraces (branch_walk self.now.verifier ctx.now place ctor.now x.now body.now (stand trail.old)) result trail.old trail.new }
     {
@@ -49,7 +50,7 @@ impl<G: Guarder> TypeWalk<'_, G> {
         x: &Match,
         trail: &mut Trail,
     ) -> Result<(), WalkHalt>
-        requires nest { self.now.verifier.room + trail.old.meter.nest ≡ 2048 }
+        requires nest { self.now.verifier.room + trail.old.meter.nest ≡ most_nested }
         requires ready { IsReady self.now.verifier.env.now ctx.now }
         ensures retraces { Retraces (branches_walk self.now.verifier ctx.now 0 ctors.now x.now x.now.branches (stand trail.old)) result trail.old trail.new }
     {

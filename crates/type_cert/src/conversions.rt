@@ -1,6 +1,7 @@
 //! Conversion: the sort of a term, that a term has a sort, a term against a type, and a type in place of another.
 ghost use Rattle.std.specs.Prelude.{◌≡◌, ◌+◌, IfOk};
 ghost use Rattle.pc_rules.specs.WellCounted.{IsCounted};
+ghost use Rattle.pc_rules.specs.DirectedRun.{most_nested};
 ghost use Rattle.type_infer.specs.Ready.{IsReady};
 ghost use Rattle.type_cert.specs.Retraces.{Retraces, stand};
 ghost use Rattle.type_cert.specs.Going.{sorting, sorting_type, fitting, checking, retyping};
@@ -12,6 +13,7 @@ use crate::sorts::stays_sort;
 use crate::trail::Trail;
 use crate::typing::TypeWalk;
 use cert_rules::item::CertItem;
+use conversion::mode::Mode;
 use pc_rules::context::Ctx;
 use pc_rules::guarder::Guarder;
 use pc_rules::stop::Stop;
@@ -30,7 +32,7 @@ impl<G: Guarder> TypeWalk<'_, G> {
         t: &Term,
         trail: &mut Trail,
     ) -> Result<Sort, WalkHalt>
-        requires nest { self.now.verifier.room + trail.old.meter.nest ≡ 2048 }
+        requires nest { self.now.verifier.room + trail.old.meter.nest ≡ most_nested }
         requires ready { IsReady self.now.verifier.env.now ctx.now }
         ensures retraces { Retraces (sorting self.now.verifier ctx.now t.now (stand trail.old)) result trail.old trail.new }
         ensures counted { IfOk result (λ _. IsCounted self.now.verifier.env.now t.now) }
@@ -52,7 +54,7 @@ impl<G: Guarder> TypeWalk<'_, G> {
         t: &Term,
         trail: &mut Trail,
     ) -> Result<Term, WalkHalt>
-        requires nest { self.now.verifier.room + trail.old.meter.nest ≡ 2048 }
+        requires nest { self.now.verifier.room + trail.old.meter.nest ≡ most_nested }
         requires ready { IsReady self.now.verifier.env.now ctx.now }
         ensures retraces { RetracesSort (sorting self.now.verifier ctx.now t.now (stand trail.old)) result trail.old trail.new }
         ensures counted { IfOk result (λ _. IsCounted self.now.verifier.env.now t.now) }
@@ -73,7 +75,7 @@ impl<G: Guarder> TypeWalk<'_, G> {
         t: &Term,
         trail: &mut Trail,
     ) -> Result<(), WalkHalt>
-        requires nest { self.now.verifier.room + trail.old.meter.nest ≡ 2048 }
+        requires nest { self.now.verifier.room + trail.old.meter.nest ≡ most_nested }
         requires ready { IsReady self.now.verifier.env.now ctx.now }
         ensures retraces { RetracesUnread (sorting self.now.verifier ctx.now t.now (stand trail.old)) result trail.old trail.new }
         ensures counted { IfOk result (λ _. IsCounted self.now.verifier.env.now t.now) }
@@ -104,7 +106,7 @@ impl<G: Guarder> TypeWalk<'_, G> {
         t: &Term,
         trail: &mut Trail,
     ) -> Result<(), WalkHalt>
-        requires nest { self.now.verifier.room + trail.old.meter.nest ≡ 2048 }
+        requires nest { self.now.verifier.room + trail.old.meter.nest ≡ most_nested }
         requires ready { IsReady self.now.verifier.env.now ctx.now }
         ensures retraces { RetracesUnread (sorting self.now.verifier ctx.now t.now (stand trail.old)) result trail.old trail.new }
         ensures counted { IfOk result (λ _. IsCounted self.now.verifier.env.now t.now) }
@@ -122,7 +124,7 @@ impl<G: Guarder> TypeWalk<'_, G> {
         ty: Term,
         trail: &mut Trail,
     ) -> Result<Term, WalkHalt>
-        requires nest { self.now.verifier.room + trail.old.meter.nest ≡ 2048 }
+        requires nest { self.now.verifier.room + trail.old.meter.nest ≡ most_nested }
         requires ready { IsReady self.now.verifier.env.now ctx.now }
         ensures retraces { RetracesSort (sorting_type self.now.verifier ctx.now ty (stand trail.old)) result trail.old trail.new }
     {
@@ -150,7 +152,7 @@ impl<G: Guarder> TypeWalk<'_, G> {
         ty: &Term,
         trail: &mut Trail,
     ) -> Result<(), WalkHalt>
-        requires nest { self.now.verifier.room + trail.old.meter.nest ≡ 2048 }
+        requires nest { self.now.verifier.room + trail.old.meter.nest ≡ most_nested }
         requires ready { IsReady self.now.verifier.env.now ctx.now }
         requires found { IsCounted self.now.verifier.env.now found.now }
         ensures retraces { Retraces (fitting self.now.verifier ctx.now found.now ty.now (stand trail.old)) result trail.old trail.new }
@@ -167,7 +169,8 @@ impl<G: Guarder> TypeWalk<'_, G> {
             Some(CertItem::Conv) => {
                 trail.at += 1;
                 self.sorted(alloc, ctx, ty, trail)?;
-                self.verifier.script(alloc, ctx, false, found, ty, trail)
+                self.verifier
+                    .script(alloc, ctx, Mode::Below, found, ty, trail)
             }
             _ => Err(WalkHalt::Barred { item: trail.at }),
         }
@@ -183,7 +186,7 @@ impl<G: Guarder> TypeWalk<'_, G> {
         ty: &Term,
         trail: &mut Trail,
     ) -> Result<(), WalkHalt>
-        requires nest { self.now.verifier.room + trail.old.meter.nest ≡ 2048 }
+        requires nest { self.now.verifier.room + trail.old.meter.nest ≡ most_nested }
         requires ready { IsReady self.now.verifier.env.now ctx.now }
         ensures retraces { Retraces (checking self.now.verifier ctx.now t.now ty.now (stand trail.old)) result trail.old trail.new }
         ensures counted { IfOk result (λ _. IsCounted self.now.verifier.env.now t.now) }
@@ -203,7 +206,7 @@ impl<G: Guarder> TypeWalk<'_, G> {
         found: &Term,
         trail: &mut Trail,
     ) -> Result<(), WalkHalt>
-        requires nest { self.now.verifier.room + trail.old.meter.nest ≡ 2048 }
+        requires nest { self.now.verifier.room + trail.old.meter.nest ≡ most_nested }
         requires ready { IsReady self.now.verifier.env.now ctx.now }
         ensures retraces { Retraces (retyping self.now.verifier ctx.now count found.now (stand trail.old)) result trail.old trail.new }
     {

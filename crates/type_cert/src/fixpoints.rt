@@ -5,6 +5,7 @@ ghost use Rattle.pc_terms.specs.Lists.{types_of};
 ghost use Rattle.pc_terms.specs.View.{tree_of};
 ghost use Rattle.pc_terms.specs.declared.term.Node.TheVariants.{Fix};
 ghost use Rattle.calculus_rules.specs.Instances.{definitions};
+ghost use Rattle.pc_rules.specs.DirectedRun.{most_nested};
 ghost use Rattle.type_infer.specs.Ready.{IsReady};
 ghost use Rattle.type_cert.specs.Retraces.{Retraces, stand, passed_with};
 ghost use Rattle.type_cert.specs.Going.{types_walk, definition_walk, definitions_walk, fix_walk};
@@ -31,7 +32,7 @@ impl<G: Guarder> TypeWalk<'_, G> {
         defs: &Defs,
         trail: &mut Trail,
     ) -> Result<Ctx, WalkHalt>
-        requires nest { self.now.verifier.room + trail.old.meter.nest ≡ 2048 }
+        requires nest { self.now.verifier.room + trail.old.meter.nest ≡ most_nested }
         requires ready { IsReady self.now.verifier.env.now ctx.now }
         ensures retraces { Retraces (types_walk self.now.verifier ctx.now 0 defs.now (stand trail.old)) (passed_with result) trail.old trail.new }
         ensures under { IfOk result (λ d. d ≡ definitions ctx.now 0 (types_of defs.now)) }
@@ -61,7 +62,7 @@ impl<G: Guarder> TypeWalk<'_, G> {
         def: &Def,
         trail: &mut Trail,
     ) -> Result<(), WalkHalt>
-        requires nest { self.now.verifier.room + trail.old.meter.nest ≡ 2048 }
+        requires nest { self.now.verifier.room + trail.old.meter.nest ≡ most_nested }
         requires ready { IsReady self.now.verifier.env.now under.now }
         ensures retraces { (d : ℕ) → Retraces (definition_walk self.now.verifier under.now count d def.now (stand trail.old)) result trail.old trail.new }
     {
@@ -87,7 +88,7 @@ impl<G: Guarder> TypeWalk<'_, G> {
         defs: &Defs,
         trail: &mut Trail,
     ) -> Result<(), WalkHalt>
-        requires nest { self.now.verifier.room + trail.old.meter.nest ≡ 2048 }
+        requires nest { self.now.verifier.room + trail.old.meter.nest ≡ most_nested }
         requires ready { IsReady self.now.verifier.env.now under.now }
         ensures retraces { Retraces (definitions_walk self.now.verifier under.now (length defs.now) 0 defs.now (stand trail.old)) result trail.old trail.new }
     {
@@ -113,7 +114,7 @@ impl<G: Guarder> TypeWalk<'_, G> {
         index: u32,
         trail: &mut Trail,
     ) -> Result<Term, WalkHalt>
-        requires nest { self.now.verifier.room + trail.old.meter.nest ≡ 2048 }
+        requires nest { self.now.verifier.room + trail.old.meter.nest ≡ most_nested }
         requires ready { IsReady self.now.verifier.env.now ctx.now }
         requires whole { tree_of (Fix defs.now index) ≡ fix.now }
         requires formed { IsFormed fix.now }

@@ -6,6 +6,7 @@ ghost use Rattle.calculus_rules.specs.Context.{values, under};
 ghost use Rattle.pc_rules.specs.declared.stop.Stop.TheVariants.{Memory};
 ghost use Rattle.pc_rules.specs.DirectedTyping.{rule_number};
 ghost use Rattle.pc_rules.specs.WellCounted.{IsCountedEnv, AreCountedValues};
+ghost use Rattle.pc_rules.specs.DirectedRun.{most_nested};
 ghost use Rattle.cert_rules.specs.Walk.{walk_all};
 ghost use Rattle.type_cert.specs.Retraces.{Retraces, stand};
 ghost use Rattle.type_cert.specs.Comparable.{AreScriptable};
@@ -17,6 +18,7 @@ use crate::parts::{Part, fix_parts, match_parts};
 use crate::trail::Trail;
 use crate::verifier::Verifier;
 use calculus_rules::entry::Entry;
+use conversion::mode::Mode;
 use pc_rules::context::Ctx;
 use pc_rules::stop::Stop;
 use pc_terms::term::{Defs, Match, Node, Term};
@@ -48,7 +50,7 @@ impl Verifier<'_> {
         b: &Term,
         trail: &mut Trail,
     ) -> Result<(), WalkHalt>
-        requires nest { self.now.room + trail.old.meter.nest ≡ 2048 }
+        requires nest { self.now.room + trail.old.meter.nest ≡ most_nested }
         requires scriptable { AreScriptable self.now.env.now (values ctx.now) (tree_of (Case x.now)) b.now }
         requires number { rule_number b.now ≡ 10 }
         ensures retraces { (equal : Bool) → Retraces (parting self.now at (values ctx.now) equal (tree_of (Case x.now)) b.now (stand trail.old)) result trail.old trail.new }
@@ -76,7 +78,7 @@ impl Verifier<'_> {
         b: &Term,
         trail: &mut Trail,
     ) -> Result<(), WalkHalt>
-        requires nest { self.now.room + trail.old.meter.nest ≡ 2048 }
+        requires nest { self.now.room + trail.old.meter.nest ≡ most_nested }
         requires scriptable { AreScriptable self.now.env.now (values ctx.now) (tree_of (Fix ds.now i)) b.now }
         requires number { rule_number b.now ≡ 11 }
         ensures retraces { (equal : Bool) → Retraces (parting self.now at (values ctx.now) equal (tree_of (Fix ds.now i)) b.now (stand trail.old)) result trail.old trail.new }
@@ -100,7 +102,7 @@ impl Verifier<'_> {
         parts: &[Part],
         trail: &mut Trail,
     ) -> Result<(), WalkHalt>
-        requires nest { self.now.room + trail.old.meter.nest ≡ 2048 }
+        requires nest { self.now.room + trail.old.meter.nest ≡ most_nested }
         requires env { IsCountedEnv self.now.env.now }
         requires values { AreCountedValues self.now.env.now (values ctx.now) }
         requires parts { AreCountedParts self.now.env.now parts.now }
@@ -109,7 +111,7 @@ impl Verifier<'_> {
         for i in 0..parts.len() {
             let part = &parts[i];
             let inner = assumed(alloc, ctx, part.under, &part.left)?;
-            self.terms_script(alloc, &inner, true, &part.left, &part.right, trail)?;
+            self.terms_script(alloc, &inner, Mode::Equal, &part.left, &part.right, trail)?;
         }
         Ok(())
     }

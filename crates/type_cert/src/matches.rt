@@ -1,6 +1,7 @@
 //! Matches: rule 10.
 ghost use Rattle.std.specs.Prelude.{◌≡◌, ◌+◌};
 ghost use Rattle.calculus_rules.specs.Environment.{with_parameters};
+ghost use Rattle.pc_rules.specs.DirectedRun.{most_nested};
 ghost use Rattle.type_infer.specs.Ready.{IsReady};
 ghost use Rattle.type_cert.specs.Retraces.{Retraces, stand};
 ghost use Rattle.type_cert.specs.Going.{predicate_walk, case_walk};
@@ -30,7 +31,7 @@ impl<G: Guarder> TypeWalk<'_, G> {
         x: &Match,
         trail: &mut Trail,
     ) -> Result<(), WalkHalt>
-        requires nest { self.now.verifier.room + trail.old.meter.nest ≡ 2048 }
+        requires nest { self.now.verifier.room + trail.old.meter.nest ≡ most_nested }
         requires ready { IsReady self.now.verifier.env.now ctx.now }
         ensures retraces { Retraces (predicate_walk self.now.verifier ctx.now block.now (with_parameters block.now.params family.now) x.now (stand trail.old)) result trail.old trail.new }
     {
@@ -49,7 +50,7 @@ impl<G: Guarder> TypeWalk<'_, G> {
         x: &Match,
         trail: &mut Trail,
     ) -> Result<Term, WalkHalt>
-        requires nest { self.now.verifier.room + trail.old.meter.nest ≡ 2048 }
+        requires nest { self.now.verifier.room + trail.old.meter.nest ≡ most_nested }
         requires ready { IsReady self.now.verifier.env.now ctx.now }
         ensures retraces { Retraces (case_walk self.now.verifier ctx.now x.now (stand trail.old)) result trail.old trail.new }
     {

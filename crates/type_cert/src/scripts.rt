@@ -7,6 +7,8 @@ ghost use Rattle.calculus_rules.specs.WeakHead.{WeakSteps};
 ghost use Rattle.pc_rules.specs.Entailment.{test_of};
 ghost use Rattle.pc_rules.specs.WellCounted.{IsCountedEnv, IsCounted};
 ghost use Rattle.pc_rules.specs.DirectedTyping.{rule_number};
+ghost use Rattle.pc_rules.specs.DirectedRun.{most_nested};
+ghost use Rattle.conversion.specs.Modes.{is_equal};
 ghost use Rattle.cert_rules.specs.declared.item.CertItem.TheVariants.{Same, Parts};
 ghost use Rattle.cert_rules.specs.Scripts.{sorts_at};
 ghost use Rattle.type_cert.specs.Retraces.{Retraces, stand};
@@ -21,6 +23,8 @@ use crate::trail::Trail;
 use crate::verifier::Verifier;
 use calculus_rules::entry::Entry;
 use cert_rules::item::CertItem;
+use conversion::mode::Mode;
+use conversion::sorts::stand_as;
 use pc_rules::context::Ctx;
 use pc_rules::environment::Env;
 use pc_rules::stop::Stop;
@@ -30,14 +34,14 @@ use reduce_machine::seen::Argument;
 use std::alloc::Global;
 
 /// Whether two terms are sorts that stand as asked. Takes no memory.
-fn sorts_stand(env: &Env, equal: bool, a: &Term, b: &Term) -> bool
+fn sorts_stand(env: &Env, mode: Mode, a: &Term, b: &Term) -> bool
     requires env { IsCountedEnv env.now }
     requires left { IsCounted env.now a.now }
     requires right { IsCounted env.now b.now }
-    ensures is { result ≡ sorts_at (test_of env.now) equal a.now b.now }
+    ensures is { result ≡ sorts_at (test_of env.now) (is_equal mode) a.now b.now }
 {
     match (a.view(), b.view()) {
-        (Node::Sort(s), Node::Sort(t)) => env.entails(s, t) && (!equal || env.entails(t, s)),
+        (Node::Sort(s), Node::Sort(t)) => stand_as(env, mode, s, t),
         _ => false,
     }
 }
@@ -73,16 +77,16 @@ fn leaf(a: &Term, b: &Term, at: usize) -> Result<(), WalkHalt>
 
 impl Verifier<'_> {
     /// The item that says that two terms are the same, or sorts that stand as asked.
-    fn same_item(&self, equal: bool, a: &Term, b: &Term, trail: &mut Trail) -> Result<(), WalkHalt>
+    fn same_item(&self, mode: Mode, a: &Term, b: &Term, trail: &mut Trail) -> Result<(), WalkHalt>
         requires there { trail.old.at < length self.now.cert.now }
         requires env { IsCountedEnv self.now.env.now }
         requires left { IsCounted self.now.env.now a.now }
         requires right { IsCounted self.now.env.now b.now }
-        ensures retraces { (V : Values) → Retraces (scripting self.now (Some Same) V equal a.now b.now (stand trail.old)) result trail.old trail.new }
+        ensures retraces { (V : Values) → Retraces (scripting self.now (Some Same) V (is_equal mode) a.now b.now (stand trail.old)) result trail.old trail.new }
     {
         // A list in memory has fewer items than 64 bits count.
         let _count = self.cert.len();
-        if a.same(b) || sorts_stand(self.env, equal, a, b) {
+        if a.same(b) || sorts_stand(self.env, mode, a, b) {
             trail.at += 1;
             return Ok(());
         }
@@ -119,25 +123,25 @@ impl Verifier<'_> {
         &self,
         alloc: Global,
         ctx: &Ctx,
-        equal: bool,
+        mode: Mode,
         a: &Term,
         b: &Term,
         trail: &mut Trail,
     ) -> Result<(), WalkHalt>
-        requires nest { self.now.room + trail.old.meter.nest ≡ 2048 }
+        requires nest { self.now.room + trail.old.meter.nest ≡ most_nested }
         requires scriptable { AreScriptable self.now.env.now (values ctx.now) a.now b.now }
-        ensures retraces { Retraces (going self.now (values ctx.now) equal a.now b.now (stand trail.old)) result trail.old trail.new }
+        ensures retraces { Retraces (going self.now (values ctx.now) (is_equal mode) a.now b.now (stand trail.old)) result trail.old trail.new }
     {
         match item_at(self.cert, trail.at) {
-            Some(CertItem::Same) => self.short_script(equal, a, b, trail),
-            _ => self.long_script(alloc, ctx, equal, a, b, trail),
+            Some(CertItem::Same) => self.short_script(mode, a, b, trail),
+            _ => self.long_script(alloc, ctx, mode, a, b, trail),
         }
     }
 
     /// A script of one item, which says that two terms are the same, or sorts that stand as asked: one more rule that stands, and the item.
     fn short_script(
         &self,
-        equal: bool,
+        mode: Mode,
         a: &Term,
         b: &Term,
         trail: &mut Trail,
@@ -146,12 +150,12 @@ impl Verifier<'_> {
         requires env { IsCountedEnv self.now.env.now }
         requires left { IsCounted self.now.env.now a.now }
         requires right { IsCounted self.now.env.now b.now }
-        ensures retraces { (V : Values) → Retraces (going self.now V equal a.now b.now (stand trail.old)) result trail.old trail.new }
+        ensures retraces { (V : Values) → Retraces (going self.now V (is_equal mode) a.now b.now (stand trail.old)) result trail.old trail.new }
     {
         if self.room == 0 {
             return Err(WalkHalt::Stop(Stop::TooDeep));
         }
-        self.same_item(equal, a, b, trail)
+        self.same_item(mode, a, b, trail)
     }
 
     /// A script that begins with another item.
@@ -159,22 +163,22 @@ impl Verifier<'_> {
         &self,
         alloc: Global,
         ctx: &Ctx,
-        equal: bool,
+        mode: Mode,
         a: &Term,
         b: &Term,
         trail: &mut Trail,
     ) -> Result<(), WalkHalt>
-        requires nest { self.now.room + trail.old.meter.nest ≡ 2048 }
+        requires nest { self.now.room + trail.old.meter.nest ≡ most_nested }
         requires scriptable { AreScriptable self.now.env.now (values ctx.now) a.now b.now }
-        ensures retraces { Retraces (going self.now (values ctx.now) equal a.now b.now (stand trail.old)) result trail.old trail.new }
+        ensures retraces { Retraces (going self.now (values ctx.now) (is_equal mode) a.now b.now (stand trail.old)) result trail.old trail.new }
     {
-        match self.passes(alloc, ctx, equal, a, b, trail) {
+        match self.passes(alloc, ctx, mode, a, b, trail) {
             Some(pace) => {
                 trail.meter.account.left = pace.left;
                 trail.at = pace.at;
                 Ok(())
             }
-            None => self.terms_script(alloc, ctx, equal, a, b, trail),
+            None => self.terms_script(alloc, ctx, mode, a, b, trail),
         }
     }
 
@@ -183,12 +187,12 @@ impl Verifier<'_> {
         &self,
         alloc: Global,
         ctx: &Ctx,
-        equal: bool,
+        mode: Mode,
         a: &Term,
         b: &Term,
         trail: &Trail,
     ) -> Option<Pace>
-        ensures passes { IfSome result (λ q. Passes (going self.now (values ctx.now) equal a.now b.now) (pace_of trail.now) q) }
+        ensures passes { IfSome result (λ q. Passes (going self.now (values ctx.now) (is_equal mode) a.now b.now) (pace_of trail.now) q) }
     {
         let Ok(left) = a.share() else {
             return None;
@@ -204,7 +208,7 @@ impl Verifier<'_> {
         };
         let left = Argument::Lazy(&x);
         let right = Argument::Lazy(&y);
-        if self.unread(alloc, ctx, equal, left, right, &mut pace) {
+        if self.unread(alloc, ctx, mode, left, right, &mut pace) {
             return Some(pace);
         }
         None
@@ -216,14 +220,14 @@ impl Verifier<'_> {
         &self,
         alloc: Global,
         ctx: &Ctx,
-        equal: bool,
+        mode: Mode,
         a: &Term,
         b: &Term,
         trail: &mut Trail,
     ) -> Result<(), WalkHalt>
-        requires nest { self.now.room + trail.old.meter.nest ≡ 2048 }
+        requires nest { self.now.room + trail.old.meter.nest ≡ most_nested }
         requires scriptable { AreScriptable self.now.env.now (values ctx.now) a.now b.now }
-        ensures retraces { Retraces (going self.now (values ctx.now) equal a.now b.now (stand trail.old)) result trail.old trail.new }
+        ensures retraces { Retraces (going self.now (values ctx.now) (is_equal mode) a.now b.now (stand trail.old)) result trail.old trail.new }
     {
         if !trail.meter.enter() {
             return Err(WalkHalt::Stop(Stop::TooDeep));
@@ -233,7 +237,7 @@ impl Verifier<'_> {
             env: self.env,
             room: self.room - 1,
         };
-        let answer = inner.item(alloc, ctx, equal, a, b, trail);
+        let answer = inner.item(alloc, ctx, mode, a, b, trail);
         trail.meter.leave();
         answer
     }
@@ -244,26 +248,26 @@ impl Verifier<'_> {
         &self,
         alloc: Global,
         ctx: &Ctx,
-        equal: bool,
+        mode: Mode,
         a: &Term,
         b: &Term,
         trail: &mut Trail,
     ) -> Result<(), WalkHalt>
-        requires nest { self.now.room + trail.old.meter.nest ≡ 2048 }
+        requires nest { self.now.room + trail.old.meter.nest ≡ most_nested }
         requires scriptable { AreScriptable self.now.env.now (values ctx.now) a.now b.now }
-        ensures retraces { Retraces (scripting self.now (slice_get self.now.cert.now trail.old.at) (values ctx.now) equal a.now b.now (stand trail.old)) result trail.old trail.new }
+        ensures retraces { Retraces (scripting self.now (slice_get self.now.cert.now trail.old.at) (values ctx.now) (is_equal mode) a.now b.now (stand trail.old)) result trail.old trail.new }
     {
         match item_at(self.cert, trail.at) {
-            Some(CertItem::Same) => self.same_item(equal, a, b, trail),
+            Some(CertItem::Same) => self.same_item(mode, a, b, trail),
             Some(CertItem::Left(n)) => {
                 let left = self.stepped(alloc, ctx, n, a, trail)?;
-                self.terms_script(alloc, ctx, equal, &left, b, trail)
+                self.terms_script(alloc, ctx, mode, &left, b, trail)
             }
             Some(CertItem::Right(n)) => {
                 let right = self.stepped(alloc, ctx, n, b, trail)?;
-                self.terms_script(alloc, ctx, equal, a, &right, trail)
+                self.terms_script(alloc, ctx, mode, a, &right, trail)
             }
-            Some(CertItem::Parts) => self.parts_item(alloc, ctx, equal, a, b, trail),
+            Some(CertItem::Parts) => self.parts_item(alloc, ctx, mode, a, b, trail),
             _ => Err(WalkHalt::Barred { item: trail.at }),
         }
     }
@@ -274,15 +278,15 @@ impl Verifier<'_> {
         &self,
         alloc: Global,
         ctx: &Ctx,
-        equal: bool,
+        mode: Mode,
         a: &Term,
         b: &Term,
         trail: &mut Trail,
     ) -> Result<(), WalkHalt>
-        requires nest { self.now.room + trail.old.meter.nest ≡ 2048 }
+        requires nest { self.now.room + trail.old.meter.nest ≡ most_nested }
         requires there { trail.old.at < length self.now.cert.now }
         requires scriptable { AreScriptable self.now.env.now (values ctx.now) a.now b.now }
-        ensures retraces { Retraces (scripting self.now (Some Parts) (values ctx.now) equal a.now b.now (stand trail.old)) result trail.old trail.new }
+        ensures retraces { Retraces (scripting self.now (Some Parts) (values ctx.now) (is_equal mode) a.now b.now (stand trail.old)) result trail.old trail.new }
     {
         let at = trail.at;
         if former(a) != former(b) {
@@ -291,7 +295,7 @@ impl Verifier<'_> {
         // A list in memory has fewer items than 64 bits count.
         let _count = self.cert.len();
         trail.at += 1;
-        self.parts(alloc, ctx, equal, at, a, b, trail)
+        self.parts(alloc, ctx, mode, at, a, b, trail)
     }
 
     /// The parts of two terms of one former, for which item `at` asks.
@@ -300,20 +304,20 @@ impl Verifier<'_> {
         &self,
         alloc: Global,
         ctx: &Ctx,
-        equal: bool,
+        mode: Mode,
         at: usize,
         a: &Term,
         b: &Term,
         trail: &mut Trail,
     ) -> Result<(), WalkHalt>
-        requires nest { self.now.room + trail.old.meter.nest ≡ 2048 }
+        requires nest { self.now.room + trail.old.meter.nest ≡ most_nested }
         requires scriptable { AreScriptable self.now.env.now (values ctx.now) a.now b.now }
         requires number { rule_number b.now ≡ rule_number a.now }
-        ensures retraces { Retraces (parting self.now at (values ctx.now) equal a.now b.now (stand trail.old)) result trail.old trail.new }
+        ensures retraces { Retraces (parting self.now at (values ctx.now) (is_equal mode) a.now b.now (stand trail.old)) result trail.old trail.new }
     {
         match a.view() {
             Node::Prod(domain, codomain) => {
-                self.product(alloc, ctx, equal, domain, codomain, b, trail)
+                self.product(alloc, ctx, mode, domain, codomain, b, trail)
             }
             Node::Lambda(domain, body) => self.lambda(alloc, ctx, domain, body, b, trail),
             Node::LetIn(value, ty, body) => {
@@ -332,23 +336,23 @@ impl Verifier<'_> {
         &self,
         alloc: Global,
         ctx: &Ctx,
-        equal: bool,
+        mode: Mode,
         domain: &Term,
         codomain: &Term,
         b: &Term,
         trail: &mut Trail,
     ) -> Result<(), WalkHalt>
-        requires nest { self.now.room + trail.old.meter.nest ≡ 2048 }
+        requires nest { self.now.room + trail.old.meter.nest ≡ most_nested }
         requires scriptable { AreScriptable self.now.env.now (values ctx.now) (Prod domain.now codomain.now) b.now }
         requires number { rule_number b.now ≡ 3 }
-        ensures retraces { (i : ℕ) → Retraces (parting self.now i (values ctx.now) equal (Prod domain.now codomain.now) b.now (stand trail.old)) result trail.old trail.new }
+        ensures retraces { (i : ℕ) → Retraces (parting self.now i (values ctx.now) (is_equal mode) (Prod domain.now codomain.now) b.now (stand trail.old)) result trail.old trail.new }
     {
         let Node::Prod(other, target) = b.view() else {
             unreachable!()
         };
-        self.terms_script(alloc, ctx, true, domain, other, trail)?;
+        self.terms_script(alloc, ctx, Mode::Equal, domain, other, trail)?;
         let under = ctx.extended(alloc, Entry::Assumed(domain.share()?))?;
-        self.terms_script(alloc, &under, equal, codomain, target, trail)
+        self.terms_script(alloc, &under, mode, codomain, target, trail)
     }
 
     /// The parts of two lambdas.
@@ -362,7 +366,7 @@ impl Verifier<'_> {
         b: &Term,
         trail: &mut Trail,
     ) -> Result<(), WalkHalt>
-        requires nest { self.now.room + trail.old.meter.nest ≡ 2048 }
+        requires nest { self.now.room + trail.old.meter.nest ≡ most_nested }
         requires scriptable { AreScriptable self.now.env.now (values ctx.now) (Lambda domain.now body.now) b.now }
         requires number { rule_number b.now ≡ 4 }
         ensures retraces { (i : ℕ) (equal : Bool) → Retraces (parting self.now i (values ctx.now) equal (Lambda domain.now body.now) b.now (stand trail.old)) result trail.old trail.new }
@@ -370,9 +374,9 @@ impl Verifier<'_> {
         let Node::Lambda(other, target) = b.view() else {
             unreachable!()
         };
-        self.terms_script(alloc, ctx, true, domain, other, trail)?;
+        self.terms_script(alloc, ctx, Mode::Equal, domain, other, trail)?;
         let under = ctx.extended(alloc, Entry::Assumed(domain.share()?))?;
-        self.terms_script(alloc, &under, true, body, target, trail)
+        self.terms_script(alloc, &under, Mode::Equal, body, target, trail)
     }
 
     /// The parts of two applications.
@@ -386,7 +390,7 @@ impl Verifier<'_> {
         b: &Term,
         trail: &mut Trail,
     ) -> Result<(), WalkHalt>
-        requires nest { self.now.room + trail.old.meter.nest ≡ 2048 }
+        requires nest { self.now.room + trail.old.meter.nest ≡ most_nested }
         requires scriptable { AreScriptable self.now.env.now (values ctx.now) (App f.now x.now) b.now }
         requires number { rule_number b.now ≡ 6 }
         ensures retraces { (i : ℕ) (equal : Bool) → Retraces (parting self.now i (values ctx.now) equal (App f.now x.now) b.now (stand trail.old)) result trail.old trail.new }
@@ -394,8 +398,8 @@ impl Verifier<'_> {
         let Node::App(g, y) = b.view() else {
             unreachable!()
         };
-        self.terms_script(alloc, ctx, true, f, g, trail)?;
-        self.terms_script(alloc, ctx, true, x, y, trail)
+        self.terms_script(alloc, ctx, Mode::Equal, f, g, trail)?;
+        self.terms_script(alloc, ctx, Mode::Equal, x, y, trail)
     }
 
     /// The parts of two lets: value, type, and the body under the left value.
@@ -410,7 +414,7 @@ impl Verifier<'_> {
         b: &Term,
         trail: &mut Trail,
     ) -> Result<(), WalkHalt>
-        requires nest { self.now.room + trail.old.meter.nest ≡ 2048 }
+        requires nest { self.now.room + trail.old.meter.nest ≡ most_nested }
         requires scriptable { AreScriptable self.now.env.now (values ctx.now) (LetIn value.now ty.now body.now) b.now }
         requires number { rule_number b.now ≡ 5 }
         ensures retraces { (i : ℕ) (equal : Bool) → Retraces (parting self.now i (values ctx.now) equal (LetIn value.now ty.now body.now) b.now (stand trail.old)) result trail.old trail.new }
@@ -418,13 +422,13 @@ impl Verifier<'_> {
         let Node::LetIn(other, kind, target) = b.view() else {
             unreachable!()
         };
-        self.terms_script(alloc, ctx, true, value, other, trail)?;
-        self.terms_script(alloc, ctx, true, ty, kind, trail)?;
+        self.terms_script(alloc, ctx, Mode::Equal, value, other, trail)?;
+        self.terms_script(alloc, ctx, Mode::Equal, ty, kind, trail)?;
         let entry = Entry::Defined {
             value: value.share()?,
             ty: ty.share()?,
         };
         let under = ctx.extended(alloc, entry)?;
-        self.terms_script(alloc, &under, true, body, target, trail)
+        self.terms_script(alloc, &under, Mode::Equal, body, target, trail)
     }
 }

@@ -2,6 +2,7 @@
 ghost use Rattle.std.specs.Prelude.{◌≡◌, ◌+◌};
 ghost use Rattle.calculus_rules.specs.Environment.{with_parameters};
 ghost use Rattle.pc_rules.specs.WellCounted.{AreCounted};
+ghost use Rattle.pc_rules.specs.DirectedRun.{most_nested};
 ghost use Rattle.type_infer.specs.Ready.{IsReady};
 ghost use Rattle.type_cert.specs.Retraces.{Retraces, stand};
 ghost use Rattle.type_cert.specs.Going.{scrutinee_walk};
@@ -30,7 +31,7 @@ impl<G: Guarder> TypeWalk<'_, G> {
         x: &Match,
         trail: &mut Trail,
     ) -> Result<Terms, WalkHalt>
-        requires nest { self.now.verifier.room + trail.old.meter.nest ≡ 2048 }
+        requires nest { self.now.verifier.room + trail.old.meter.nest ≡ most_nested }
         requires ready { IsReady self.now.verifier.env.now ctx.now }
         requires params { AreCounted self.now.verifier.env.now x.now.params }
         ensures retraces { Retraces (scrutinee_walk self.now.verifier ctx.now (with_parameters block.now.params family.now) x.now (stand trail.old)) result trail.old trail.new }

@@ -3,6 +3,7 @@ ghost use Rattle.std.specs.Prelude.{◌≡◌, ◌+◌, IfOk, length};
 ghost use Rattle.pc_terms.specs.Syntax.{Rel};
 ghost use Rattle.calculus_rules.specs.Context.{extend};
 ghost use Rattle.pc_rules.specs.WellCounted.{AreCounted};
+ghost use Rattle.pc_rules.specs.DirectedRun.{most_nested};
 ghost use Rattle.type_infer.specs.Ready.{IsReady};
 ghost use Rattle.type_cert.specs.Retraces.{Retraces, stand, passed_with};
 ghost use Rattle.type_cert.specs.Going.{entering, checking_all};
@@ -28,7 +29,7 @@ impl<G: Guarder> TypeWalk<'_, G> {
         entries: &Telescope,
         trail: &mut Trail,
     ) -> Result<Ctx, WalkHalt>
-        requires nest { self.now.verifier.room + trail.old.meter.nest ≡ 2048 }
+        requires nest { self.now.verifier.room + trail.old.meter.nest ≡ most_nested }
         requires ready { IsReady self.now.verifier.env.now ctx.now }
         ensures retraces { Retraces (entering self.now.verifier ctx.now entries.now (stand trail.old)) (passed_with result) trail.old trail.new }
         ensures longer { IfOk result (λ d. d ≡ extend ctx.now entries.now) }
@@ -57,7 +58,7 @@ impl<G: Guarder> TypeWalk<'_, G> {
         telescope: &Telescope,
         trail: &mut Trail,
     ) -> Result<(), WalkHalt>
-        requires nest { self.now.verifier.room + trail.old.meter.nest ≡ 2048 }
+        requires nest { self.now.verifier.room + trail.old.meter.nest ≡ most_nested }
         requires ready { IsReady self.now.verifier.env.now ctx.now }
         requires counts { length terms.now ≡ length telescope.now }
         ensures retraces { Retraces (checking_all self.now.verifier ctx.now (λ i. Rel (raise + i)) terms.now telescope.now (stand trail.old)) result trail.old trail.new }

@@ -1,5 +1,6 @@
 //! The certified walk of typing: the unit of each rule, and which rule a term has.
 ghost use Rattle.std.specs.Prelude.{◌≡◌, ◌+◌, IfOk};
+ghost use Rattle.pc_rules.specs.DirectedRun.{most_nested};
 ghost use Rattle.rule_laws.specs.Inference.{IsInferred};
 ghost use Rattle.type_infer.specs.Ready.{IsReady};
 ghost use Rattle.type_cert.specs.Retraces.{Retraces, stand};
@@ -35,7 +36,7 @@ impl<G: Guarder> TypeWalk<'_, G> {
         t: &Term,
         trail: &mut Trail,
     ) -> Result<Term, WalkHalt>
-        requires nest { self.now.verifier.room + trail.old.meter.nest ≡ 2048 }
+        requires nest { self.now.verifier.room + trail.old.meter.nest ≡ most_nested }
         requires ready { IsReady self.now.verifier.env.now ctx.now }
         ensures retraces { Retraces (inferring self.now.verifier ctx.now t.now (stand trail.old)) result trail.old trail.new }
         ensures inferred { IfOk result (λ ty. IsInferred self.now.verifier.env.now ctx.now t.now ty) }
@@ -65,7 +66,7 @@ impl<G: Guarder> TypeWalk<'_, G> {
     /// The rule of a term.
     #[cycle(infer)]
     fn rule(&self, alloc: Global, ctx: &Ctx, t: &Term, trail: &mut Trail) -> Result<Term, WalkHalt>
-        requires nest { self.now.verifier.room + trail.old.meter.nest ≡ 2048 }
+        requires nest { self.now.verifier.room + trail.old.meter.nest ≡ most_nested }
         requires ready { IsReady self.now.verifier.env.now ctx.now }
         ensures retraces { Retraces (rule_walk self.now.verifier ctx.now t.now (stand trail.old)) result trail.old trail.new }
     {

@@ -10,6 +10,7 @@ ghost use Rattle.cert_rules.specs.Walk.{walk_all};
 ghost use Rattle.cert_rules.specs.Scripts.{parts_of};
 ghost use Rattle.reduce_machine.specs.Reads.{read};
 ghost use Rattle.reduce_machine.specs.Seen.{argument_term, seen_term, IsSeen};
+ghost use Rattle.conversion.specs.Modes.{is_equal};
 ghost use Rattle.lazy_conversion.specs.Parts.{read_part};
 ghost use Rattle.lazy_conversion.specs.Sound.{IsSeenArgument};
 ghost use Rattle.type_cert.specs.Going.{going, scripting};
@@ -21,6 +22,7 @@ use crate::pace::{Pace, next_item};
 use crate::taken::{as_value, stepped_value};
 use crate::verifier::Verifier;
 use cert_rules::item::CertItem;
+use conversion::mode::Mode;
 use lazy_conversion::part::Part;
 use lazy_conversion::same_values::{same_arguments, same_heads};
 use lazy_conversion::sameness::same_parts;
@@ -89,14 +91,14 @@ impl Verifier<'_> {
         &self,
         alloc: Global,
         ctx: &Ctx,
-        equal: bool,
+        mode: Mode,
         a: Argument<'_>,
         b: Argument<'_>,
         pace: &mut Pace,
     ) -> bool
         requires left { IsSeenArgument a }
         requires right { IsSeenArgument b }
-        ensures passes { IsTrue result → Passes (going self.now (values ctx.now) equal (argument_term a.entry) (argument_term b.entry)) pace.old pace.new }
+        ensures passes { IsTrue result → Passes (going self.now (values ctx.now) (is_equal mode) (argument_term a.entry) (argument_term b.entry)) pace.old pace.new }
     {
         if self.room == 0 {
             return false;
@@ -106,7 +108,7 @@ impl Verifier<'_> {
             env: self.env,
             room: self.room - 1,
         };
-        inner.unread_item(alloc, ctx, equal, a, b, pace)
+        inner.unread_item(alloc, ctx, mode, a, b, pace)
     }
 
     /// The item at which a script stands, and what follows.
@@ -115,14 +117,14 @@ impl Verifier<'_> {
         &self,
         alloc: Global,
         ctx: &Ctx,
-        equal: bool,
+        mode: Mode,
         a: Argument<'_>,
         b: Argument<'_>,
         pace: &mut Pace,
     ) -> bool
         requires left { IsSeenArgument a }
         requires right { IsSeenArgument b }
-        ensures passes { IsTrue result → Passes (scripting self.now (slice_get self.now.cert.now pace.old.at) (values ctx.now) equal (argument_term a.entry) (argument_term b.entry)) pace.old pace.new }
+        ensures passes { IsTrue result → Passes (scripting self.now (slice_get self.now.cert.now pace.old.at) (values ctx.now) (is_equal mode) (argument_term a.entry) (argument_term b.entry)) pace.old pace.new }
     {
         match next_item(self.cert, pace) {
             Some(CertItem::Same) => are_same(alloc, a, b),
@@ -131,16 +133,16 @@ impl Verifier<'_> {
                     return false;
                 };
                 let x = Argument::Value(left.seen());
-                self.unread(alloc, ctx, equal, x, b, pace)
+                self.unread(alloc, ctx, mode, x, b, pace)
             }
             Some(CertItem::Right(n)) => {
                 let Some(right) = stepped_value(alloc, self.env, ctx, n, b, pace) else {
                     return false;
                 };
                 let y = Argument::Value(right.seen());
-                self.unread(alloc, ctx, equal, a, y, pace)
+                self.unread(alloc, ctx, mode, a, y, pace)
             }
-            Some(CertItem::Parts) => self.unread_parts(alloc, ctx, equal, a, b, pace),
+            Some(CertItem::Parts) => self.unread_parts(alloc, ctx, mode, a, b, pace),
             _ => false,
         }
     }
@@ -151,14 +153,14 @@ impl Verifier<'_> {
         &self,
         alloc: Global,
         ctx: &Ctx,
-        equal: bool,
+        mode: Mode,
         a: Argument<'_>,
         b: Argument<'_>,
         pace: &mut Pace,
     ) -> bool
         requires left { IsSeenArgument a }
         requires right { IsSeenArgument b }
-        ensures passes { IsTrue result → AllPass (parts_of (going self.now) (values ctx.now) equal (argument_term a.entry) (argument_term b.entry)) pace.old pace.new }
+        ensures passes { IsTrue result → AllPass (parts_of (going self.now) (values ctx.now) (is_equal mode) (argument_term a.entry) (argument_term b.entry)) pace.old pace.new }
     {
         let Some(x) = as_value(alloc, self.env, ctx, a) else {
             return false;
@@ -166,7 +168,7 @@ impl Verifier<'_> {
         let Some(y) = as_value(alloc, self.env, ctx, b) else {
             return false;
         };
-        self.unread_values(alloc, ctx, equal, x.seen(), y.seen(), pace)
+        self.unread_values(alloc, ctx, mode, x.seen(), y.seen(), pace)
     }
 
     /// The parts of two values.
@@ -175,21 +177,21 @@ impl Verifier<'_> {
         &self,
         alloc: Global,
         ctx: &Ctx,
-        equal: bool,
+        mode: Mode,
         x: Seen<'_>,
         y: Seen<'_>,
         pace: &mut Pace,
     ) -> bool
         requires left { IsSeen x }
         requires right { IsSeen y }
-        ensures passes { IsTrue result → AllPass (parts_of (going self.now) (values ctx.now) equal (seen_term x.entry) (seen_term y.entry)) pace.old pace.new }
+        ensures passes { IsTrue result → AllPass (parts_of (going self.now) (values ctx.now) (is_equal mode) (seen_term x.entry) (seen_term y.entry)) pace.old pace.new }
     {
         match (shape_of(x), shape_of(y)) {
             (Shape::Product(f), Shape::Product(g)) => {
-                self.unread_binders(alloc, ctx, equal, f, g, pace)
+                self.unread_binders(alloc, ctx, mode, f, g, pace)
             }
             (Shape::Lambda(f), Shape::Lambda(g)) => {
-                self.unread_binders(alloc, ctx, true, f, g, pace)
+                self.unread_binders(alloc, ctx, Mode::Equal, f, g, pace)
             }
             (Shape::Spine, Shape::Spine) => self.unread_spines(alloc, ctx, x, y, pace),
             _ => false,
@@ -244,7 +246,7 @@ impl Verifier<'_> {
         }
         let left = x.argument(last);
         let right = y.argument(last);
-        self.unread(alloc, ctx, true, left, right, pace)
+        self.unread(alloc, ctx, Mode::Equal, left, right, pace)
     }
 
     /// A script for the heads of two values with their first `n` arguments.
@@ -285,20 +287,20 @@ impl Verifier<'_> {
         &self,
         alloc: Global,
         ctx: &Ctx,
-        equal: bool,
+        mode: Mode,
         f: Binder<'_>,
         g: Binder<'_>,
         pace: &mut Pace,
     ) -> bool
-        ensures passes { IsTrue result → Passes (walk_all (binder_acts (going self.now) (values ctx.now) equal f.entry g.entry)) pace.old pace.new }
+        ensures passes { IsTrue result → Passes (walk_all (binder_acts (going self.now) (values ctx.now) (is_equal mode) f.entry g.entry)) pace.old pace.new }
     {
-        if !self.unread_part(alloc, ctx, true, f.domain, g.domain, pace) {
+        if !self.unread_part(alloc, ctx, Mode::Equal, f.domain, g.domain, pace) {
             return false;
         }
         let Ok(inner) = assumed(alloc, ctx, 1, f.domain.term) else {
             return false;
         };
-        self.unread_part(alloc, &inner, equal, f.body, g.body, pace)
+        self.unread_part(alloc, &inner, mode, f.body, g.body, pace)
     }
 
     /// A script for two parts: they are read only where the next item doesn't say that they are the same.
@@ -307,12 +309,12 @@ impl Verifier<'_> {
         &self,
         alloc: Global,
         ctx: &Ctx,
-        equal: bool,
+        mode: Mode,
         a: Part<'_>,
         b: Part<'_>,
         pace: &mut Pace,
     ) -> bool
-        ensures passes { IsTrue result → Passes (going self.now (values ctx.now) equal (read_part a.entry) (read_part b.entry)) pace.old pace.new }
+        ensures passes { IsTrue result → Passes (going self.now (values ctx.now) (is_equal mode) (read_part a.entry) (read_part b.entry)) pace.old pace.new }
     {
         if let Some(CertItem::Same) = item_at(self.cert, pace.at) {
             return self.same_part(a, b, pace);
@@ -325,6 +327,6 @@ impl Verifier<'_> {
         };
         let left = Argument::Lazy(&x);
         let right = Argument::Lazy(&y);
-        self.unread(alloc, ctx, equal, left, right, pace)
+        self.unread(alloc, ctx, mode, left, right, pace)
     }
 }

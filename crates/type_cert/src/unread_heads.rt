@@ -16,6 +16,7 @@ use crate::listed::assumed;
 use crate::pace::Pace;
 use crate::parts::same_families;
 use crate::verifier::Verifier;
+use conversion::mode::Mode;
 use lazy_conversion::part::Part;
 use lazy_conversion::spine_heads::fit;
 use lazy_conversion::stuck::{Recursive, Stuck, fixpoint, stuck_match};
@@ -111,7 +112,7 @@ impl Verifier<'_> {
         }
         let left = Argument::Value(f.scrut);
         let right = Argument::Value(g.scrut);
-        if !self.unread(alloc, ctx, true, left, right, pace) {
+        if !self.unread(alloc, ctx, Mode::Equal, left, right, pace) {
             return false;
         }
         self.unread_arms(alloc, ctx, f, g, pace)
@@ -145,7 +146,7 @@ impl Verifier<'_> {
                 under: 0,
                 env: g.env,
             };
-            if !self.unread_part(alloc, ctx, true, left, right, pace) {
+            if !self.unread_part(alloc, ctx, Mode::Equal, left, right, pace) {
                 return false;
             }
         }
@@ -177,7 +178,7 @@ impl Verifier<'_> {
             under: u64::from(g.outer.binders),
             env: g.env,
         };
-        self.unread_part(alloc, &inner, true, left, right, pace)
+        self.unread_part(alloc, &inner, Mode::Equal, left, right, pace)
     }
 
     /// The branches of two matches, each under its variables.
@@ -208,7 +209,7 @@ impl Verifier<'_> {
             };
             let left = arm_part(x, f.env);
             let right = arm_part(y, g.env);
-            if !self.unread_part(alloc, &inner, true, left, right, pace) {
+            if !self.unread_part(alloc, &inner, Mode::Equal, left, right, pace) {
                 return false;
             }
         }
@@ -245,7 +246,7 @@ impl Verifier<'_> {
                 under: 0,
                 env: g.env,
             };
-            if !self.unread_part(alloc, ctx, true, left, right, pace) {
+            if !self.unread_part(alloc, ctx, Mode::Equal, left, right, pace) {
                 return false;
             }
         }
@@ -278,7 +279,7 @@ impl Verifier<'_> {
             };
             let left = body_part(x, n, f.env);
             let right = body_part(y, n, g.env);
-            if !self.unread_part(alloc, &inner, true, left, right, pace) {
+            if !self.unread_part(alloc, &inner, Mode::Equal, left, right, pace) {
                 return false;
             }
         }

@@ -19,8 +19,8 @@ use Rattle.pc_rules.specs.Follows.{Answers, Halts}
 use Rattle.pc_rules.specs.DirectedRun.{Run, Refused, is_beyond}
 use Rattle.calculus_rules.specs.Lookups.{kept_at, known_block, whole_block}
 use Rattle.pc_rules.specs.DirectedTyping.{family_number, ind_rule, construct_rule}
-use Rattle.type_infer.proofs.Finding.{bind_refused, halts_first, answers_made, beyond_fault}
-use Rattle.pc_rules.proofs.Following.{bind_done}
+use Rattle.type_infer.proofs.Finding.{bind_refused, answers_made, beyond_fault}
+use Rattle.pc_rules.proofs.Following.{bind_done, answers_err}
 
 -- a refusal, or want of memory
 pub halts_either : {A : Type 0} (d : Run A) (b : Broken) (h : Halt) (u : Account) → d.end ≡ Refused b u → (h ≡ Refusal b) ⊎ (h ≡ Stop Memory) → Halts d h u
@@ -37,7 +37,7 @@ module _ (E : Env) (f : FamilyId) (u : Account) where
 
   pub family_numbered : (B : Block) (h : Halt) → known_block (kept_at E.declarations f.block) ≡ Some B → Halts (family_number B f (family_at B f.family) u) h u →
       Answers (ind_rule E f u) (Err h) u
-  family_numbered B h e p = rw e (halts_first _ _ u h p)
+  family_numbered B h e p = rw e (answers_err _ _ u h p)
 
   module _ (B : Block) (F : FamilyDecl) (e : known_block (kept_at E.declarations f.block) ≡ Some B) (e' : family_at B f.family ≡ Some F) where
     pub family_made : (T : Term) → T ≡ family_type F → Answers (ind_rule E f u) (Ok T) u
@@ -52,12 +52,12 @@ module _ (E : Env) (f : FamilyId) (n : ℕ) (u : Account) where
 
   pub constructor_family : (B : Block) (h : Halt) → whole_block (kept_at E.declarations f.block) ≡ Some B → Halts (family_number B f (family_at B f.family) u) h u →
       Answers (construct_rule E f n u) (Err h) u
-  constructor_family B h e p = rw e (halts_first _ _ u h p)
+  constructor_family B h e p = rw e (answers_err _ _ u h p)
 
   module _ (B : Block) (F : FamilyDecl) (e : whole_block (kept_at E.declarations f.block) ≡ Some B) (e' : family_at B f.family ≡ Some F) where
     pub no_constructor : (h : Halt) → slice_get F.constructors n ≡ None → (h ≡ Refusal (BadNumber n (length F.constructors))) ⊎ (h ≡ Stop Memory) →
         Answers (construct_rule E f n u) (Err h) u
-    no_constructor h k p = rw (e, e', bind_done, k) (halts_first _ _ u h (halts_either _ _ h u refl p))
+    no_constructor h k p = rw (e, e', bind_done, k) (answers_err _ _ u h (halts_either _ _ h u refl p))
 
     pub constructor_made : (C : Constructor) (T : Term) → slice_get F.constructors n ≡ Some C → T ≡ constructor_type f F C → Answers (construct_rule E f n u) (Ok T) u
     constructor_made C T k p = rw (e, e', bind_done, k, bind_done) (answers_made (constructor_type f F C) T u p)

@@ -9,31 +9,22 @@ use Rattle.pc_terms.specs.declared.term.MakeFault.TheVariants.{TooDeep as DeepTe
 use Rattle.pc_rules.specs.declared.broken.Broken.{Broken}
 use Rattle.pc_rules.specs.declared.meter.Account.{Account}
 use Rattle.pc_rules.specs.declared.meter.Meter.{Meter}
-use Rattle.pc_rules.specs.declared.stop.Stop.TheVariants.{Spent, TooDeep, Memory}
 use Rattle.pc_rules.specs.declared.stop.Halt.{Halt}
-use Rattle.pc_rules.specs.declared.stop.Halt.TheVariants.{Stop, Broken as Refusal}
+use Rattle.pc_rules.specs.declared.stop.Halt.TheVariants.{Stop}
 use Rattle.pc_rules.specs.Stops.{stop_of}
 use Rattle.calculus_rules.specs.Environment.{Env}
 use Rattle.calculus_rules.specs.Context.{Context}
 use Rattle.calculus_rules.specs.Same.{same}
-use Rattle.pc_rules.specs.Follows.{Follows, Answers, Halts}
-use Rattle.pc_rules.specs.DirectedRun.{Run, Done, is_beyond, bind, end_then, done, refused, make}
+use Rattle.pc_rules.specs.Follows.{Follows, Answers}
+use Rattle.pc_rules.specs.DirectedRun.{Run, Done, is_beyond, bind, done, refused, make}
 use Rattle.pc_rules.specs.DirectedComparison.{Comparison}
 use Rattle.pc_rules.specs.DirectedTyping.{Typing, infer, conv, sort_found, check, retype, app_found}
 use Rattle.pc_rules.specs.Entailment.{test_of}
-use Rattle.pc_rules.proofs.Following.{or_left, follows_done, follows_then, follows_else}
+use Rattle.pc_rules.proofs.Following.{follows_done, follows_then, follows_else}
 
 pub bind_refused : {A B : Type 0} (b : Broken) (u : Account) (k : A → Account → Run B) → bind (refused b u) k ≡ refused b u
 unfolding bind
 bind_refused b u k = refl
-
--- the first part halts
-pub halts_first : {A B : Type 0} (d : Run A) (k : A → Account → Run B) (u : Account) (h : Halt) → Halts d h u → Halts (bind d k) h u
-unfolding bind
-halts_first d k u (Stop Spent) h = (ap (λ x. end_then x (λ a u. (k a u).end)) h.0, h.1)
-halts_first d k u (Stop TooDeep) h = or_left d.deep _ h
-halts_first d k u (Stop Memory) h = tt
-halts_first d k u (Refusal b) h = ap (λ x. end_then x (λ a u. (k a u).end)) h
 
 -- a term is made, or there is a fault
 pub answers_made : (t made : Term) (u : Account) → made ≡ t → Answers (make t u) (Ok made) u

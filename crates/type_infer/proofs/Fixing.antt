@@ -1,12 +1,11 @@
 -- Rule 11, definition by definition.
 use Rattle.std.proofs.Common.{◌≡◌, ◌∙◌, sym, ap, refl, ℕ, zero, suc, ◌<◌, ◌≤◌, ◌+◌, ◌-◌, ◌⊎◌, Bool, true, false, List, [], ◌∷◌, length, drop, get_or, Option, Some, None, Result, Ok, Err, add-one, arith, slice_get, subst as transport}
-use Rattle.std.proofs.Math.Seq.{drop-cons}
 use Rattle.std.proofs.lemmas.List.{drop_all}
 use Rattle.universe_levels.specs.declared.sort.Sort.{Sort}
 use Rattle.trees.specs.Measures.{IsBeyond}
 use Rattle.trees.specs.Substitution.{lift}
 use Rattle.trees.proofs.Cutoffs.{lift-shift}
-use Rattle.pc_terms.specs.Syntax.{Term, Lambda, head, shift, term_at}
+use Rattle.pc_terms.specs.Syntax.{Term, Lambda, head, shift, term_at, list_of}
 use Rattle.pc_terms.specs.Lists.{rargs_of, types_of, bodies_of}
 use Rattle.pc_terms.specs.declared.term.Def.{Def}
 use Rattle.pc_terms.specs.declared.term.MakeFault.{MakeFault}
@@ -25,7 +24,6 @@ use Rattle.pc_rules.specs.Stops.{stop_of}
 use Rattle.pc_rules.specs.Follows.{Follows, Answers}
 use Rattle.pc_rules.specs.DirectedRun.{Run, make, bind}
 use Rattle.pc_rules.specs.DirectedWeakHead.{whnf}
-use Rattle.calculus_rules.specs.Listed.{list_of}
 use Rattle.pc_rules.specs.DirectedComparison.{Comparison}
 use Rattle.pc_rules.specs.DirectedTyping.{Typing, sort_of, check, types_rule, recursive_domain, enough_abstractions, is_a_family, family_found, definition_rule, definitions_rule, definition_type}
 use Rattle.pc_rules.proofs.Following.{follows_bind, follows_err, follows_made, follows_fault, follows_done, follows_refused, follows_then, follows_else, follows_memory}
@@ -33,12 +31,9 @@ use Rattle.pc_rules.proofs.FairReduction.{FairComparison}
 use Rattle.pc_rules.proofs.Fair.{leaves_bind}
 use Rattle.pc_rules.proofs.FairTyping.{FairTyping, enough_leaves}
 use Rattle.pc_rules.proofs.Leaving.{leaving}
+use Rattle.pc_rules.proofs.ListSteps.{next_is}
 use Rattle.type_infer.proofs.Declaring.{halts_either}
 use Rattle.pc_terms.proofs.Parts.{rargs_length}
-
--- item i and those after it
-pub next_is : {A : Type 0} (xs : List A) (i : ℕ) (a : A) → i < length xs → a ≡ get_or xs i a → drop i xs ≡ a ∷ drop (suc i) xs
-next_is xs i a h e = rw (drop-cons xs i a h, ← e) refl
 
 -- the types
 
@@ -80,15 +75,15 @@ module _ (E : Env) (inf : Typing) (c : Context) where
           Follows (types_rule E inf (Assumed S ∷ c) (i + 1) (list_of (types_of (drop (i + 1) ds))) m1.account) r m1 m2 →
           Follows (types_rule E inf c i (list_of (types_of (drop i ds))) m0.account) r m0 m2
       types_next S s r m0 m1 m2 p f g =
-          rw (next_is ds i d h e) (type_step i d.ty (list_of (types_of (drop (suc i) ds))) S s r m0 m1 m2 p f (rw add-one at g))
+          rw (next_is ds i d h e, add-one) (type_step i d.ty (list_of (types_of (drop (suc i) ds))) S s r m0 m1 m2 p f (rw add-one at g))
 
       pub types_stop : FairTyping 0 0 inf → (S : Term) (x : Halt) (m0 m1 : Meter) → S ≡ shift i 0 d.ty → Follows (sort_of E inf c S m0.account) (Err x) m0 m1 →
           Follows (types_rule E inf c i (list_of (types_of (drop i ds))) m0.account) (Err x) m0 m1
-      types_stop g S x m0 m1 p f = rw (next_is ds i d h e) (type_stops i d.ty (list_of (types_of (drop (suc i) ds))) g S x m0 m1 p f)
+      types_stop g S x m0 m1 p f = rw (next_is ds i d h e) (type_stops i d.ty (list_of (types_of (drop (i + 1) ds))) g S x m0 m1 p f)
 
       pub types_fault : FairTyping 0 0 inf → (f : MakeFault) (m : Meter) → (f ≡ DeepTerm → IsBeyond (lift i 0 d.ty)) →
           Follows (types_rule E inf c i (list_of (types_of (drop i ds))) m.account) (Err (Stop (stop_of f))) m m
-      types_fault g f m p = rw (next_is ds i d h e) (type_fault i d.ty (list_of (types_of (drop (suc i) ds))) g f m p)
+      types_fault g f m p = rw (next_is ds i d h e) (type_fault i d.ty (list_of (types_of (drop (i + 1) ds))) g f m p)
 
 -- the context under them
 
@@ -158,7 +153,7 @@ module _ (E : Env) (inf : Typing) (cmp : Comparison) (c : Context) (n : ℕ) whe
       pub definitions_go : (x : Result (Unit {0}) Halt) (m0 m1 m2 : Meter) → Follows (definition_rule E inf cmp c n i d.rarg d.ty d.body m0.account) (Ok tt) m0 m1 →
           Follows (definitions_rule E inf cmp c n (i + 1) (rargs_of (drop (i + 1) ds)) (list_of (types_of (drop (i + 1) ds))) (list_of (bodies_of k (drop (i + 1) ds))) m1.account) x m1 m2 →
           Follows (definitions_from m0.account) x m0 m2
-      definitions_go x m0 m1 m2 f g = rw (next_is ds i d h e) (definition_step i d.rarg _ d.ty _ d.body _ x m0 m1 m2 f (rw add-one at g))
+      definitions_go x m0 m1 m2 f g = rw (next_is ds i d h e, add-one) (definition_step i d.rarg _ d.ty _ d.body _ x m0 m1 m2 f (rw add-one at g))
 
       pub definitions_stop : FairTyping 0 0 inf → FairComparison 0 0 cmp → (x : Halt) (m0 m1 : Meter) → Follows (definition_rule E inf cmp c n i d.rarg d.ty d.body m0.account) (Err x) m0 m1 →
           Follows (definitions_from m0.account) (Err x) m0 m1

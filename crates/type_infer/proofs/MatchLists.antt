@@ -6,10 +6,11 @@ use Rattle.universe_levels.specs.declared.sort.Sort.TheVariants.{Prop, Of}
 use Rattle.trees.specs.Tree.{terms_of, number}
 use Rattle.trees.specs.Shape.{binders_of}
 use Rattle.trees.specs.Measures.{IsBeyond}
-use Rattle.pc_terms.specs.Syntax.{Term, App, apply}
+use Rattle.pc_terms.specs.Syntax.{Term, apply}
 use Rattle.pc_terms.specs.Lists.{arms_of}
 use Rattle.pc_terms.specs.declared.term.Branch.{Branch}
-use Rattle.pc_terms.proofs.Applied.{beyond-apply}
+use Rattle.pc_terms.proofs.Applied.{beyond-apply, apply-append}
+use Rattle.pc_terms.proofs.Forms.{number_terms}
 use Rattle.calculus_rules.specs.declared.declaration.Constructor.{Constructor}
 use Rattle.pc_rules.specs.declared.meter.Account.{Account}
 use Rattle.pc_rules.specs.declared.stop.Halt.{Halt}
@@ -17,9 +18,9 @@ use Rattle.calculus_rules.specs.Environment.{FamilyDecl}
 use Rattle.pc_rules.specs.DirectedRun as run
 use Rattle.pc_rules.specs.DirectedTyping.{counted, names_counted, match_counted, all_prop}
 use Rattle.pc_rules.specs.Follows.{Answers, Halts}
-use Rattle.type_infer.proofs.Finding.{halts_first}
 use Rattle.type_infer.proofs.Answering.{answers_bind}
 use Rattle.pc_rules.proofs.ListSteps.{next_is, none_left, min_either}
+use Rattle.pc_rules.proofs.Following.{answers_err}
 
 -- the variables of branches
 
@@ -35,7 +36,7 @@ module _ (Cs : List Constructor) (bs : List Branch) where
   pub names_stop : (i : ℕ) (C : Constructor) (b : Branch) (u : Account) (x : Halt) → i < length Cs → i < length bs → C ≡ get_or Cs i C → b ≡ get_or bs i b →
       Halts (counted (length C.args) b.binders u) x u → Halts (names_from i u) x u
   names_stop i C b u x h k e e' p =
-      rw (next_is Cs i C h e, next_is bs i b k e') (halts_first (counted (length C.args) b.binders u) (λ _ v. names_from (i + 1) v) u x p)
+      rw (next_is Cs i C h e, next_is bs i b k e') (answers_err (counted (length C.args) b.binders u) (λ _ v. names_from (i + 1) v) u x p)
 
   no_names : (Ds : List Constructor) (u : Account) → names_counted Ds [] u ≡ run.done tt u
   no_names [] u = refl
@@ -61,22 +62,14 @@ all_prop_end ss i h = ap all_prop (none_left ss i h)
 
 -- applications to two lists, one after the other
 
-pub apply_append : (t : Term) (xs ys : List Term) → apply t (xs ++ ys) ≡ apply (apply t xs) ys
-apply_append t [] ys = refl
-apply_append t (x ∷ xs) ys = apply_append (App t x) xs ys
-
 pub beyond_before : (t : Term) (xs ys : List Term) → IsBeyond (apply t xs) → IsBeyond (apply t (xs ++ ys))
-beyond_before t xs ys h = subst (λ (u : Term). IsBeyond u) (sym (apply_append t xs ys)) (beyond-apply (apply t xs) ys h)
+beyond_before t xs ys h = subst (λ (u : Term). IsBeyond u) (sym (apply-append t xs ys)) (beyond-apply (apply t xs) ys h)
 
 -- an item more of those from a place on
 pub one_more_item : {A : Type 0} (out xs : List A) (i : ℕ) (a : A) → i < length xs → a ≡ get_or xs i a → (out ++ (a ∷ [])) ++ drop (i + 1) xs ≡ out ++ drop i xs
 one_more_item out xs i a h e = append_assoc out (a ∷ []) (drop (i + 1) xs) ∙ ap (λ ys. out ++ ys) (sym (next_is xs i a h e))
 
--- as many terms as their list has, and as many branches
-
-number_terms : (ps : List Term) → number (terms_of ps) ≡ length ps
-number_terms [] = refl
-number_terms (p ∷ ps) = ap suc (number_terms ps)
+-- as many branches as their list has
 
 number_arms : (bs : List Branch) → number (arms_of bs) ≡ length bs
 number_arms [] = refl
@@ -102,21 +95,21 @@ module _ (F : FamilyDecl) (n : ℕ) (ps : List Term) (bs : List Branch) (u : Acc
       (subst (λ b. Answers (counts (length ps) b u) r u) (sym (number_arms bs)) h)
 
   pub parameters_stop : (x : Halt) → Halts (counted (length F.parameters) (length ps) u) x u → Halts (match_counted F (terms_of ps) n (arms_of bs) u) x u
-  parameters_stop x h = counts_are (Err x) (halts_first (counted (length F.parameters) (length ps) u) (λ _ v. indices_left (length bs) v) u x h)
+  parameters_stop x h = counts_are (Err x) (answers_err (counted (length F.parameters) (length ps) u) (λ _ v. indices_left (length bs) v) u x h)
 
   module _ (p : Answers (counted (length F.parameters) (length ps) u) (Ok tt) u) where
     parameters_go : (r : Result (Unit {0}) Halt) → Answers (indices_left (length bs) u) r u → Answers (match_counted F (terms_of ps) n (arms_of bs) u) r u
     parameters_go r h = counts_are r (answers_bind (counted (length F.parameters) (length ps) u) (λ _ v. indices_left (length bs) v) tt u r p h)
 
     pub indices_stop : (x : Halt) → Halts (counted (length F.indices + 1) n u) x u → Halts (match_counted F (terms_of ps) n (arms_of bs) u) x u
-    indices_stop x h = parameters_go (Err x) (halts_first (counted (length F.indices + 1) n u) (λ _ v. branches_left (length bs) v) u x h)
+    indices_stop x h = parameters_go (Err x) (answers_err (counted (length F.indices + 1) n u) (λ _ v. branches_left (length bs) v) u x h)
 
     module _ (q : Answers (counted (length F.indices + 1) n u) (Ok tt) u) where
       indices_go : (r : Result (Unit {0}) Halt) → Answers (branches_left (length bs) u) r u → Answers (match_counted F (terms_of ps) n (arms_of bs) u) r u
       indices_go r h = parameters_go r (answers_bind (counted (length F.indices + 1) n u) (λ _ v. branches_left (length bs) v) tt u r q h)
 
       pub branches_stop : (x : Halt) → Halts (counted (length F.constructors) (length bs) u) x u → Halts (match_counted F (terms_of ps) n (arms_of bs) u) x u
-      branches_stop x h = indices_go (Err x) (halts_first (counted (length F.constructors) (length bs) u) (λ _ v. names_left v) u x h)
+      branches_stop x h = indices_go (Err x) (answers_err (counted (length F.constructors) (length bs) u) (λ _ v. names_left v) u x h)
 
       pub names_go : (r : Result (Unit {0}) Halt) → Answers (counted (length F.constructors) (length bs) u) (Ok tt) u →
           Answers (names_counted F.constructors (binders_of (arms_of bs)) u) r u → Answers (match_counted F (terms_of ps) n (arms_of bs) u) r u

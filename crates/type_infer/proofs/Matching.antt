@@ -10,7 +10,7 @@ use Rattle.pc_terms.specs.declared.term.Match.{Match}
 use Rattle.pc_terms.specs.declared.term.MakeFault.{MakeFault}
 use Rattle.pc_terms.specs.declared.term.MakeFault.TheVariants.{TooDeep as DeepTerm, Memory as NoTerm}
 use Rattle.pc_terms.specs.Lists.{arms_of}
-use Rattle.pc_terms.specs.Syntax.{Term, Rel, Ind, Case, apply, args, first, put_all, substitute, subst_list}
+use Rattle.pc_terms.specs.Syntax.{Term, Rel, Ind, Case, apply, args, first, put_all, substitute, subst_list, list_of}
 use Rattle.calculus_rules.specs.declared.declaration.Constructor.{Constructor}
 use Rattle.calculus_rules.specs.declared.declaration.Block.{Block}
 use Rattle.calculus_rules.specs.declared.entry.Entry.TheVariants.{Assumed}
@@ -25,15 +25,14 @@ use Rattle.calculus_rules.specs.Context.{Context, values, extend}
 use Rattle.calculus_rules.specs.Instances.{predicate_at}
 use Rattle.pc_rules.specs.DirectedRun.{Run, Act, done, make, passing, is_beyond, bind, Leaves}
 use Rattle.pc_rules.specs.DirectedWeakHead.{whnf}
-use Rattle.calculus_rules.specs.Listed.{list_of}
 use Rattle.pc_rules.specs.DirectedComparison.{Comparison}
 use Rattle.calculus_rules.specs.Lookups.{kept_at, whole_block}
 use Rattle.pc_rules.specs.DirectedTyping.{Typing, sort_of, check, sorts_of, check_all, find_family, retype, found_family, scrutinee_fits, match_counted, predicate_rule, scrutinee_rule, branch_rule, branches_rule, case_rule}
 use Rattle.calculus_rules.specs.WeakHead.{WeakSteps}
 use Rattle.pc_rules.specs.Follows.{Follows, Answers, Halts}
 use Rattle.pc_rules.specs.WellCounted.{IsCounted, AreCounted}
-use Rattle.pc_rules.proofs.Following.{follows_bind, follows_err, follows_done, follows_memory, follows_deep, follows_passing, follows_still, follows_fault, bind_done}
-use Rattle.pc_rules.proofs.SameWithin.{bind_assoc}
+use Rattle.pc_rules.proofs.Following.{follows_bind, follows_err, follows_done, follows_memory, follows_deep, follows_passing, follows_still, follows_fault, bind_done, answers_err}
+use Rattle.pc_rules.proofs.Leading.{bind_assoc}
 use Rattle.pc_rules.proofs.Fair.{leaves_bind, same_left}
 use Rattle.pc_rules.proofs.FairReduction.{FairComparison}
 use Rattle.pc_rules.proofs.FairTyping.{FairTyping, rule_leaves, check_all_leaves, retype_leaves}
@@ -43,12 +42,12 @@ use Rattle.rule_laws.proofs.Counted.{apply_counted, appended_counted, args_count
 use Rattle.rule_laws.proofs.CountedParts.{ind_counted}
 use Rattle.rule_laws.proofs.KeepCounts.{values_counted, steps_counted}
 use Rattle.type_infer.specs.Ready.{IsReady}
-use Rattle.type_infer.proofs.Finding.{halts_first}
 use Rattle.type_infer.proofs.Steps.{and_then, halts, still}
 use Rattle.type_infer.specs.Entering.{entries_entered}
 use Rattle.pc_rules.proofs.ListSteps.{next_is, none_left, min_either}
 use Rattle.calculus_rules.proofs.Listing.{listed}
 use Rattle.rule_laws.proofs.MatchRule.{dropped_counted}
+use Rattle.calculus_rules.proofs.Spines.{put_more}
 
 -- terms are made, or there is a fault
 
@@ -72,8 +71,8 @@ module _ (E : Env) (inf : Typing) where
       let more : Sort → List Sort → Account → Run (List Sort) = λ s ss w. done (s ∷ ss) w in
       let end : List Sort → Account → Run Context = λ _ v. done X v in
       let inner : (s : Sort) (v : Account) → bind (bind (sorts_of E inf (Assumed A ∷ c) As v) (more s)) end ≡ entries_entered E inf (Assumed A ∷ c) As v =
-      λ s v. bind_assoc (more s) end (sorts_of E inf (Assumed A ∷ c) As v) ∙ (λ i. bind (sorts_of E inf (Assumed A ∷ c) As v) (λ ss w. bind_done (s ∷ ss) w end i)) in
-      bind_assoc (λ s v. bind (sorts_of E inf (Assumed A ∷ c) As v) (more s)) end (sort_of E inf c A u) ∙ (λ i. bind (sort_of E inf c A u) (λ s v. inner s v i))
+      λ s v. bind_assoc (sorts_of E inf (Assumed A ∷ c) As v) (more s) end ∙ (λ i. bind (sorts_of E inf (Assumed A ∷ c) As v) (λ ss w. bind_done (s ∷ ss) w end i)) in
+      bind_assoc (sort_of E inf c A u) (λ s v. bind (sorts_of E inf (Assumed A ∷ c) As v) (more s)) end ∙ (λ i. bind (sort_of E inf c A u) (λ s v. inner s v i))
 
   entered_nil : (c : Context) (u : Account) → entries_entered E inf c [] u ≡ done c u
   unfolding sorts_of
@@ -100,7 +99,7 @@ module _ (E : Env) (inf : Typing) where
   module _ {B : Type 0} (c : Context) (As : List Term) (k : Account → Run B) where
     forgotten : (u : Account) → bind (entries_entered E inf c As u) (λ _ w. k w) ≡ bind (sorts_of E inf c As u) (λ _ w. k w)
     forgotten u =
-        bind_assoc (λ _ v. done (extend c As) v) (λ _ w. k w) (sorts_of E inf c As u) ∙ (λ i. bind (sorts_of E inf c As u) (λ _ w. bind_done (extend c As) w (λ _ x. k x) i))
+        bind_assoc (sorts_of E inf c As u) (λ _ v. done (extend c As) v) (λ _ w. k w) ∙ (λ i. bind (sorts_of E inf c As u) (λ _ w. bind_done (extend c As) w (λ _ x. k x) i))
 
     pub entered_then : (d : Context) (r : Result B Halt) (m0 m1 m2 : Meter) → Follows (entries_entered E inf c As m0.account) (Ok d) m0 m1 → Follows (k m1.account) r m1 m2 →
         Follows (bind (sorts_of E inf c As m0.account) (λ _ w. k w)) r m0 m2
@@ -116,10 +115,6 @@ pub longer_next : (c : Context) (As : List Term) (i : ℕ) (A : Term) → i < le
 longer_next c As i A l e = ap (extend c) (sym (next_is As i A l e))
 
 -- terms against a telescope
-
-pub put_more : (xs : List Term) (a : Term) (s : ℕ → Term) → put_all (xs ++ (a ∷ [])) s ≡ first a (put_all xs s)
-put_more [] a s = refl
-put_more (x ∷ xs) a s = put_more xs a (first x s)
 
 module _ (E : Env) (inf : Typing) (cmp : Comparison) (c : Context) (ts As : List Term) where
   -- from term i on, where those before it are put in
@@ -316,7 +311,7 @@ module _ (x : Match) (E : Env) (inf : Typing) (cmp : Comparison) (c : Context) w
 
     pub case_unknown : {h : Halt} {m : Meter} → Halts (find_family x.family kept_block m.account) h m.account → Follows (whole m.account) (Err h) m m
     case_unknown {h = h} {m = m} k =
-        follows_still (whole m.account) (Err h) m (halts_first (find_family x.family kept_block m.account) (after_family kept_block (list_of (terms_of x.params))) m.account h k)
+        follows_still (whole m.account) (Err h) m (answers_err (find_family x.family kept_block m.account) (after_family kept_block (list_of (terms_of x.params))) m.account h k)
         (rule_leaves E inf cmp f g c (Case x.family (terms_of x.params) x.binders x.ret x.scrut (arms_of x.branches)) m.account)
 
     -- from the family on, where a part halts

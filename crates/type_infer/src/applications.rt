@@ -6,6 +6,7 @@ ghost use Rattle.pc_rules.specs.Follows.{Follows};
 ghost use Rattle.pc_terms.specs.Syntax.{App};
 ghost use Rattle.pc_rules.specs.DirectedComparison.{compare};
 ghost use Rattle.pc_rules.specs.DirectedTyping.{infer, app_rule};
+ghost use Rattle.pc_rules.specs.DirectedRun.{most_nested};
 ghost use Rattle.type_infer.specs.Pending.{FollowsPending, reduced_rule};
 ghost use Rattle.type_infer.specs.Ready.{IsReady};
 
@@ -37,7 +38,7 @@ impl<R: Reducer + Drop, C: Converter + Drop, G: Guarder + Drop> Inference<R, C, 
         argument: &Term,
         m: &mut Meter,
     ) -> Result<Term, Halt>
-        requires nest { room + m.old.nest ≡ 2048 }
+        requires nest { room + m.old.nest ≡ most_nested }
         requires ready { IsReady env.now ctx.now }
         requires site { S.is_of site.now env.now ctx.now }
         ensures follows { Follows (app_rule env.now (infer env.now (test_of env.now) room) (compare env.now (test_of env.now) room) ctx.now function.now argument.now m.old.account) result m.old m.new }
@@ -59,7 +60,7 @@ impl<R: Reducer + Drop, C: Converter + Drop, G: Guarder + Drop> Inference<R, C, 
         argument: &Term,
         m: &mut Meter,
     ) -> Result<PendingType, Halt>
-        requires nest { room + m.old.nest ≡ 2048 }
+        requires nest { room + m.old.nest ≡ most_nested }
         requires ready { IsReady env.now ctx.now }
         requires site { S.is_of site.now env.now ctx.now }
         ensures follows { FollowsPending (app_rule env.now (infer env.now (test_of env.now) room) (compare env.now (test_of env.now) room) ctx.now function.now argument.now m.old.account) result m.old m.new }
@@ -92,7 +93,7 @@ impl<R: Reducer + Drop, C: Converter + Drop, G: Guarder + Drop> Inference<R, C, 
         argument: &Term,
         m: &mut Meter,
     ) -> Result<PendingType, Halt>
-        requires nest { room + m.old.nest ≡ 2048 }
+        requires nest { room + m.old.nest ≡ most_nested }
         requires ready { IsReady env.now ctx.now }
         requires site { S.is_of site.now env.now ctx.now }
         ensures follows { FollowsPending (reduced_rule env.now (infer env.now (test_of env.now) room) (compare env.now (test_of env.now) room) ctx.now argument.now ty.now m.old.account) result m.old m.new }
@@ -120,7 +121,7 @@ impl<R: Reducer + Drop, C: Converter + Drop, G: Guarder + Drop> Inference<R, C, 
         t: &Term,
         m: &mut Meter,
     ) -> Result<PendingType, Halt>
-        requires nest { room + m.old.nest ≡ 2048 }
+        requires nest { room + m.old.nest ≡ most_nested }
         requires ready { IsReady env.now ctx.now }
         requires site { S.is_of site.now env.now ctx.now }
         ensures follows { FollowsPending (infer env.now (test_of env.now) room ctx.now t.now m.old.account) result m.old m.new }
@@ -148,7 +149,7 @@ impl<R: Reducer + Drop, C: Converter + Drop, G: Guarder + Drop> Inference<R, C, 
         argument: &Term,
         m: &mut Meter,
     ) -> Result<PendingType, Halt>
-        requires nest { room + m.old.nest ≡ 2048 }
+        requires nest { room + m.old.nest ≡ most_nested }
         requires ready { IsReady env.now ctx.now }
         requires site { S.is_of site.now env.now ctx.now }
         requires whole { App function.now argument.now ≡ t.now }
@@ -182,7 +183,7 @@ impl<R: Reducer + Drop, C: Converter + Drop, G: Guarder + Drop> Inference<R, C, 
         argument: &Term,
         m: &mut Meter,
     ) -> Result<PendingType, Halt>
-        requires nest { room + m.old.nest ≡ 2048 }
+        requires nest { room + m.old.nest ≡ most_nested }
         requires ready { IsReady env.now ctx.now }
         requires site { S.is_of site.now env.now ctx.now }
         ensures follows { FollowsPending (infer env.now (test_of env.now) room ctx.now (App function.now argument.now) m.old.account) result m.old m.new }

@@ -4,6 +4,7 @@ ghost use Rattle.pc_rules.specs.Entailment.{test_of};
 ghost use Rattle.pc_rules.specs.Follows.{Follows};
 ghost use Rattle.pc_rules.specs.DirectedComparison.{compare};
 ghost use Rattle.pc_rules.specs.DirectedTyping.{infer, prod_rule, lambda_rule, let_rule};
+ghost use Rattle.pc_rules.specs.DirectedRun.{most_nested};
 ghost use Rattle.type_infer.specs.Ready.{IsReady};
 
 use crate::inference::Inference;
@@ -34,7 +35,7 @@ impl<R: Reducer + Drop, C: Converter + Drop, G: Guarder + Drop> Inference<R, C, 
         codomain: &Term,
         m: &mut Meter,
     ) -> Result<Term, Halt>
-        requires nest { room + m.old.nest ≡ 2048 }
+        requires nest { room + m.old.nest ≡ most_nested }
         requires ready { IsReady env.now ctx.now }
         requires site { S.is_of site.now env.now ctx.now }
         ensures follows { Follows (prod_rule env.now (infer env.now (test_of env.now) room) ctx.now domain.now codomain.now m.old.account) result m.old m.new }
@@ -60,7 +61,7 @@ impl<R: Reducer + Drop, C: Converter + Drop, G: Guarder + Drop> Inference<R, C, 
         body: &Term,
         m: &mut Meter,
     ) -> Result<Term, Halt>
-        requires nest { room + m.old.nest ≡ 2048 }
+        requires nest { room + m.old.nest ≡ most_nested }
         requires ready { IsReady env.now ctx.now }
         requires site { S.is_of site.now env.now ctx.now }
         ensures follows { Follows (lambda_rule env.now (infer env.now (test_of env.now) room) ctx.now domain.now body.now m.old.account) result m.old m.new }
@@ -86,7 +87,7 @@ impl<R: Reducer + Drop, C: Converter + Drop, G: Guarder + Drop> Inference<R, C, 
         body: &Term,
         m: &mut Meter,
     ) -> Result<Term, Halt>
-        requires nest { room + m.old.nest ≡ 2048 }
+        requires nest { room + m.old.nest ≡ most_nested }
         requires ready { IsReady env.now ctx.now }
         requires site { S.is_of site.now env.now ctx.now }
         ensures follows { Follows (let_rule env.now (infer env.now (test_of env.now) room) (compare env.now (test_of env.now) room) ctx.now value.now ty.now body.now m.old.account) result m.old m.new }

@@ -1,11 +1,12 @@
 //! The branches of a match.
 ghost use Rattle.std.specs.Prelude.{◌≡◌, ◌+◌};
 ghost use Rattle.pc_terms.specs.Lists.{arms_of};
+ghost use Rattle.pc_terms.specs.Syntax.{list_of};
 ghost use Rattle.pc_rules.specs.Entailment.{test_of};
 ghost use Rattle.pc_rules.specs.Follows.{Follows};
-ghost use Rattle.calculus_rules.specs.Listed.{list_of};
 ghost use Rattle.pc_rules.specs.DirectedComparison.{compare};
 ghost use Rattle.pc_rules.specs.DirectedTyping.{infer, branch_rule, branches_rule};
+ghost use Rattle.pc_rules.specs.DirectedRun.{most_nested};
 ghost use Rattle.type_infer.specs.Ready.{IsReady};
 
 use crate::inference::Inference;
@@ -39,7 +40,7 @@ impl<R: Reducer + Drop, C: Converter + Drop, G: Guarder + Drop> Inference<R, C, 
         body: &Term,
         m: &mut Meter,
     ) -> Result<(), Halt>
-        requires nest { room + m.old.nest ≡ 2048 }
+        requires nest { room + m.old.nest ≡ most_nested }
         requires ready { IsReady env.now ctx.now }
         requires site { S.is_of site.now env.now ctx.now }
         ensures follows { Follows (branch_rule env.now (infer env.now (test_of env.now) room) (compare env.now (test_of env.now) room) ctx.now x.now.family place ctor.now x.now.params x.now.ret body.now m.old.account) result m.old m.new }
@@ -64,7 +65,7 @@ impl<R: Reducer + Drop, C: Converter + Drop, G: Guarder + Drop> Inference<R, C, 
         x: &Match,
         m: &mut Meter,
     ) -> Result<(), Halt>
-        requires nest { room + m.old.nest ≡ 2048 }
+        requires nest { room + m.old.nest ≡ most_nested }
         requires ready { IsReady env.now ctx.now }
         requires site { S.is_of site.now env.now ctx.now }
         ensures follows { Follows (branches_rule env.now (infer env.now (test_of env.now) room) (compare env.now (test_of env.now) room) ctx.now x.now.family 0 ctors.now x.now.params x.now.ret (list_of (arms_of x.now.branches)) m.old.account) result m.old m.new }

@@ -6,6 +6,7 @@ ghost use Rattle.pc_rules.specs.Follows.{Follows};
 ghost use Rattle.pc_rules.specs.WellCounted.{IsCounted};
 ghost use Rattle.pc_rules.specs.DirectedComparison.{compare};
 ghost use Rattle.pc_rules.specs.DirectedTyping.{infer, conv, sort_of, check, retype};
+ghost use Rattle.pc_rules.specs.DirectedRun.{most_nested};
 ghost use Rattle.type_infer.specs.Ready.{IsReady};
 ghost use Rattle.type_infer.specs.Unread.{FollowsUnread, sort_of_type};
 
@@ -48,7 +49,7 @@ impl<R: Reducer + Drop, C: Converter + Drop, G: Guarder + Drop> Inference<R, C, 
         t: &Term,
         m: &mut Meter,
     ) -> Result<Sort, Halt>
-        requires nest { room + m.old.nest ≡ 2048 }
+        requires nest { room + m.old.nest ≡ most_nested }
         requires ready { IsReady env.now ctx.now }
         requires site { S.is_of site.now env.now ctx.now }
         ensures follows { Follows (sort_of env.now (infer env.now (test_of env.now) room) ctx.now t.now m.old.account) result m.old m.new }
@@ -73,7 +74,7 @@ impl<R: Reducer + Drop, C: Converter + Drop, G: Guarder + Drop> Inference<R, C, 
         t: &Term,
         m: &mut Meter,
     ) -> Result<(), Halt>
-        requires nest { room + m.old.nest ≡ 2048 }
+        requires nest { room + m.old.nest ≡ most_nested }
         requires ready { IsReady env.now ctx.now }
         requires site { S.is_of site.now env.now ctx.now }
         ensures follows { FollowsUnread (sort_of env.now (infer env.now (test_of env.now) room) ctx.now t.now m.old.account) result m.old m.new }
@@ -97,7 +98,7 @@ impl<R: Reducer + Drop, C: Converter + Drop, G: Guarder + Drop> Inference<R, C, 
         t: &Term,
         m: &mut Meter,
     ) -> Result<(), Halt>
-        requires nest { room + m.old.nest ≡ 2048 }
+        requires nest { room + m.old.nest ≡ most_nested }
         requires ready { IsReady env.now ctx.now }
         requires site { S.is_of site.now env.now ctx.now }
         ensures follows { FollowsUnread (sort_of env.now (infer env.now (test_of env.now) room) ctx.now t.now m.old.account) result m.old m.new }
@@ -123,7 +124,7 @@ impl<R: Reducer + Drop, C: Converter + Drop, G: Guarder + Drop> Inference<R, C, 
         ty: &Term,
         m: &mut Meter,
     ) -> Result<Sort, Halt>
-        requires nest { room + m.old.nest ≡ 2048 }
+        requires nest { room + m.old.nest ≡ most_nested }
         requires ready { IsReady env.now ctx.now }
         requires site { S.is_of site.now env.now ctx.now }
         ensures follows { Follows (sort_of_type env.now (infer env.now (test_of env.now) room) ctx.now ty.now m.old.account) result m.old m.new }
@@ -156,7 +157,7 @@ impl<R: Reducer + Drop, C: Converter + Drop, G: Guarder + Drop> Inference<R, C, 
         ty: &Term,
         m: &mut Meter,
     ) -> Result<(), Halt>
-        requires nest { room + m.old.nest ≡ 2048 }
+        requires nest { room + m.old.nest ≡ most_nested }
         requires ready { IsReady env.now ctx.now }
         requires site { S.is_of site.now env.now ctx.now }
         ensures follows { Follows (check env.now (infer env.now (test_of env.now) room) (compare env.now (test_of env.now) room) ctx.now t.now ty.now m.old.account) result m.old m.new }
@@ -185,7 +186,7 @@ impl<R: Reducer + Drop, C: Converter + Drop, G: Guarder + Drop> Inference<R, C, 
         whnf: &Term,
         m: &mut Meter,
     ) -> Result<(), Halt>
-        requires nest { room + m.old.nest ≡ 2048 }
+        requires nest { room + m.old.nest ≡ most_nested }
         requires ready { IsReady env.now ctx.now }
         requires site { S.is_of site.now env.now ctx.now }
         ensures follows { Follows (retype env.now (infer env.now (test_of env.now) room) ctx.now ty.now whnf.now m.old.account) result m.old m.new }
@@ -209,7 +210,7 @@ impl<R: Reducer + Drop, C: Converter + Drop, G: Guarder + Drop> Inference<R, C, 
         b: &Term,
         m: &mut Meter,
     ) -> Result<(), Halt>
-        requires nest { room + m.old.nest ≡ 2048 }
+        requires nest { room + m.old.nest ≡ most_nested }
         requires ready { IsReady env.now ctx.now }
         requires left { IsCounted env.now a.now }
         requires right { IsCounted env.now b.now }

@@ -2,7 +2,7 @@
 ghost use Rattle.std.specs.Prelude.{◌≡◌, ◌+◌, IfOk, IfErr, MatchOption, None, Some, length, slice_get};
 ghost use Rattle.pc_terms.specs.Formed.{IsFormed};
 ghost use Rattle.pc_terms.specs.Lists.{rargs_of, types_of, bodies_of};
-ghost use Rattle.pc_terms.specs.Syntax.{head, term_at};
+ghost use Rattle.pc_terms.specs.Syntax.{head, term_at, list_of};
 ghost use Rattle.pc_terms.specs.View.{tree_of};
 ghost use Rattle.pc_terms.specs.declared.term.Node.TheVariants.{Fix};
 ghost use Rattle.pc_rules.specs.declared.meter.Account.{Account};
@@ -10,9 +10,9 @@ ghost use Rattle.pc_rules.specs.declared.stop.Stop.TheVariants.{Memory};
 ghost use Rattle.pc_rules.specs.Entailment.{test_of};
 ghost use Rattle.pc_rules.specs.Follows.{Answers, Follows};
 ghost use Rattle.calculus_rules.specs.Instances.{definitions};
-ghost use Rattle.calculus_rules.specs.Listed.{list_of};
 ghost use Rattle.pc_rules.specs.DirectedComparison.{compare};
 ghost use Rattle.pc_rules.specs.DirectedTyping.{infer, types_rule, recursive_domain, is_a_family, definition_rule, definitions_rule, definition_type, fix_rule};
+ghost use Rattle.pc_rules.specs.DirectedRun.{most_nested};
 ghost use Rattle.type_infer.specs.Ready.{IsReady, done_with};
 
 use crate::declared::bad_number;
@@ -94,7 +94,7 @@ impl<R: Reducer + Drop, C: Converter + Drop, G: Guarder + Drop> Inference<R, C, 
         defs: &Defs,
         m: &mut Meter,
     ) -> Result<Ctx, Halt>
-        requires nest { room + m.old.nest ≡ 2048 }
+        requires nest { room + m.old.nest ≡ most_nested }
         requires ready { IsReady env.now ctx.now }
         requires site { S.is_of site.now env.now ctx.now }
         ensures follows { Follows (types_rule env.now (infer env.now (test_of env.now) room) ctx.now 0 (list_of (types_of defs.now)) m.old.account) (done_with result) m.old m.new }
@@ -129,7 +129,7 @@ impl<R: Reducer + Drop, C: Converter + Drop, G: Guarder + Drop> Inference<R, C, 
         def: &Def,
         m: &mut Meter,
     ) -> Result<(), Halt>
-        requires nest { room + m.old.nest ≡ 2048 }
+        requires nest { room + m.old.nest ≡ most_nested }
         requires ready { IsReady env.now under.now }
         requires site { S.is_of site.now env.now under.now }
         ensures follows { Follows (definition_rule env.now (infer env.now (test_of env.now) room) (compare env.now (test_of env.now) room) under.now count number def.now.rarg def.now.ty def.now.body m.old.account) result m.old m.new }
@@ -158,7 +158,7 @@ impl<R: Reducer + Drop, C: Converter + Drop, G: Guarder + Drop> Inference<R, C, 
         defs: &Defs,
         m: &mut Meter,
     ) -> Result<(), Halt>
-        requires nest { room + m.old.nest ≡ 2048 }
+        requires nest { room + m.old.nest ≡ most_nested }
         requires ready { IsReady env.now under.now }
         requires site { S.is_of site.now env.now under.now }
         ensures follows { Follows (definitions_rule env.now (infer env.now (test_of env.now) room) (compare env.now (test_of env.now) room) under.now (length (rargs_of defs.now)) 0 (rargs_of defs.now) (list_of (types_of defs.now)) (list_of (bodies_of (length defs.now) defs.now)) m.old.account) result m.old m.new }
@@ -197,7 +197,7 @@ impl<R: Reducer + Drop, C: Converter + Drop, G: Guarder + Drop> Inference<R, C, 
         index: u32,
         m: &mut Meter,
     ) -> Result<Term, Halt>
-        requires nest { room + m.old.nest ≡ 2048 }
+        requires nest { room + m.old.nest ≡ most_nested }
         requires ready { IsReady env.now ctx.now }
         requires site { S.is_of site.now env.now ctx.now }
         requires whole { tree_of (Fix defs.now index) ≡ fix.now }

@@ -6,6 +6,7 @@ ghost use Rattle.pc_rules.specs.Follows.{Follows};
 ghost use Rattle.pc_rules.specs.WellCounted.{IsCounted};
 ghost use Rattle.pc_rules.specs.DirectedComparison.{compare};
 ghost use Rattle.pc_rules.specs.DirectedTyping.{infer, rule, rule_number};
+ghost use Rattle.pc_rules.specs.DirectedRun.{most_nested};
 ghost use Rattle.rule_laws.specs.Inference.{IsInferred};
 ghost use Rattle.type_infer.specs.Ready.{IsReady};
 
@@ -154,7 +155,7 @@ impl<R: Reducer + Drop, C: Converter + Drop, G: Guarder + Drop> Inference<R, C, 
         t: &Term,
         m: &mut Meter,
     ) -> Result<Term, Halt>
-        requires nest { room + m.old.nest ≡ 2048 }
+        requires nest { room + m.old.nest ≡ most_nested }
         requires ready { IsReady env.now ctx.now }
         requires site { S.is_of site.now env.now ctx.now }
         ensures follows { Follows (infer env.now (test_of env.now) room ctx.now t.now m.old.account) result m.old m.new }
@@ -181,7 +182,7 @@ impl<R: Reducer + Drop, C: Converter + Drop, G: Guarder + Drop> Inference<R, C, 
         t: &Term,
         m: &mut Meter,
     ) -> Result<Term, Halt>
-        requires nest { room + m.old.nest ≡ 2048 }
+        requires nest { room + m.old.nest ≡ most_nested }
         requires ready { IsReady env.now ctx.now }
         requires site { S.is_of site.now env.now ctx.now }
         ensures follows { Follows (infer env.now (test_of env.now) room ctx.now t.now m.old.account) result m.old m.new }
@@ -211,7 +212,7 @@ impl<R: Reducer + Drop, C: Converter + Drop, G: Guarder + Drop> Inference<R, C, 
         t: &Term,
         m: &mut Meter,
     ) -> Result<Term, Halt>
-        requires nest { room + m.old.nest ≡ 2048 }
+        requires nest { room + m.old.nest ≡ most_nested }
         requires ready { IsReady env.now ctx.now }
         requires site { S.is_of site.now env.now ctx.now }
         ensures follows { Follows (rule env.now (infer env.now (test_of env.now) room) (compare env.now (test_of env.now) room) ctx.now t.now m.old.account) result m.old m.new }

@@ -19,7 +19,7 @@ use instances::instances::constructors::constructor_type;
 use instances::instances::families::family_type;
 use pc_terms::leaf::FamilyId;
 use pc_terms::lists::Telescope;
-use pc_terms::term::{MakeFault, Node, Term};
+use pc_terms::term::{DEPTH_LIMIT, MakeFault, Node, Term};
 use std::alloc::Global;
 use std::cell::Cell;
 
@@ -154,7 +154,7 @@ fn short_length(telescope: &Telescope) -> Option<u32>
     ensures is { IfSome result (λ n. n ≡ length telescope.now) }
 {
     let items = telescope.len();
-    if items > 2048 {
+    if items > DEPTH_LIMIT as usize {
         return None;
     }
     Some(items as u32)

@@ -10,6 +10,7 @@ ghost use Rattle.pc_rules.specs.Follows.{Answers, Halts, Follows};
 ghost use Rattle.pc_rules.specs.WellCounted.{IsCounted, AreCounted};
 ghost use Rattle.pc_rules.specs.DirectedComparison.{compare};
 ghost use Rattle.pc_rules.specs.DirectedTyping.{infer, is_the_family, found_family, scrutinee_fits, scrutinee_rule};
+ghost use Rattle.pc_rules.specs.DirectedRun.{most_nested};
 ghost use Rattle.type_infer.specs.Ready.{IsReady};
 
 use crate::conversions::conv;
@@ -107,7 +108,7 @@ impl<R: Reducer + Drop, C: Converter + Drop, G: Guarder + Drop> Inference<R, C, 
         asked: &Term,
         m: &mut Meter,
     ) -> Result<(), Halt>
-        requires nest { room + m.old.nest ≡ 2048 }
+        requires nest { room + m.old.nest ≡ most_nested }
         requires ready { IsReady env.now ctx.now }
         requires site { S.is_of site.now env.now ctx.now }
         requires found { IsCounted env.now found.now }
@@ -136,7 +137,7 @@ impl<R: Reducer + Drop, C: Converter + Drop, G: Guarder + Drop> Inference<R, C, 
         x: &Match,
         m: &mut Meter,
     ) -> Result<Terms, Halt>
-        requires nest { room + m.old.nest ≡ 2048 }
+        requires nest { room + m.old.nest ≡ most_nested }
         requires ready { IsReady env.now ctx.now }
         requires site { S.is_of site.now env.now ctx.now }
         requires params { AreCounted env.now x.now.params }

@@ -7,6 +7,7 @@ ghost use Rattle.pc_rules.specs.Follows.{Follows};
 ghost use Rattle.pc_rules.specs.WellCounted.{AreCounted};
 ghost use Rattle.pc_rules.specs.DirectedComparison.{compare};
 ghost use Rattle.pc_rules.specs.DirectedTyping.{infer, check_all};
+ghost use Rattle.pc_rules.specs.DirectedRun.{most_nested};
 ghost use Rattle.type_infer.specs.Entering.{entries_entered};
 ghost use Rattle.type_infer.specs.Ready.{IsReady};
 
@@ -37,7 +38,7 @@ impl<R: Reducer + Drop, C: Converter + Drop, G: Guarder + Drop> Inference<R, C, 
         entries: &Telescope,
         m: &mut Meter,
     ) -> Result<Ctx, Halt>
-        requires nest { room + m.old.nest ≡ 2048 }
+        requires nest { room + m.old.nest ≡ most_nested }
         requires ready { IsReady env.now ctx.now }
         requires site { S.is_of site.now env.now ctx.now }
         ensures follows { Follows (entries_entered env.now (infer env.now (test_of env.now) room) ctx.now entries.now m.old.account) result m.old m.new }
@@ -69,7 +70,7 @@ impl<R: Reducer + Drop, C: Converter + Drop, G: Guarder + Drop> Inference<R, C, 
         telescope: &Telescope,
         m: &mut Meter,
     ) -> Result<(), Halt>
-        requires nest { room + m.old.nest ≡ 2048 }
+        requires nest { room + m.old.nest ≡ most_nested }
         requires ready { IsReady env.now ctx.now }
         requires site { S.is_of site.now env.now ctx.now }
         requires counts { length terms.now ≡ length telescope.now }

@@ -9,6 +9,7 @@ ghost use Rattle.pc_rules.specs.Entailment.{test_of};
 ghost use Rattle.pc_rules.specs.Follows.{Answers, Follows};
 ghost use Rattle.pc_rules.specs.DirectedComparison.{compare, entered};
 ghost use Rattle.pc_rules.specs.DirectedTyping.{infer, sort_rule};
+ghost use Rattle.pc_rules.specs.DirectedRun.{most_nested};
 ghost use Rattle.type_infer.specs.Unread.{with_result};
 
 use crate::leaves::undeclared_in;
@@ -65,7 +66,7 @@ fn sort_stands(env: &Env, s: &Sort) -> Result<(), Halt>
 
 /// That a sort has a sort, with the unit of its inference, one more rule that stands, and the note of rule 2. Takes no memory.
 pub(crate) fn sort_of_sort(env: &Env, s: &Sort, m: &mut Meter) -> Result<(), Halt>
-    ensures follows { (c : Context) (n : ℕ) → n + m.old.nest ≡ 2048 → Follows (infer env.now (test_of env.now) n c (SortT s.now) m.old.account) (with_result (SortT (super_sort s.now)) result) m.old m.new }
+    ensures follows { (c : Context) (n : ℕ) → n + m.old.nest ≡ most_nested → Follows (infer env.now (test_of env.now) n c (SortT s.now) m.old.account) (with_result (SortT (super_sort s.now)) result) m.old m.new }
 {
     if !m.tick() {
         return Err(Halt::Stop(Stop::Spent));
@@ -117,7 +118,7 @@ pub(crate) fn sorts_below(
     requires constraints { AreOver env.now.levels env.now.constraints }
     requires left_over { IsSortOver env.now.levels s.now }
     requires right_over { IsSortOver env.now.levels t.now }
-    ensures follows { (c : Context) (n : ℕ) → n + m.old.nest ≡ 2048 → Follows (compare env.now (test_of env.now) n c false a.now b.now m.old.account) result m.old m.new }
+    ensures follows { (c : Context) (n : ℕ) → n + m.old.nest ≡ most_nested → Follows (compare env.now (test_of env.now) n c false a.now b.now m.old.account) result m.old m.new }
 {
     if !m.tick() {
         return Err(Halt::Stop(Stop::Spent));

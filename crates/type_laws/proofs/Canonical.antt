@@ -12,9 +12,9 @@ use Rattle.calculus_rules.specs.Step.{IsConstructor, is_constructor}
 use Rattle.calculus_rules.specs.Evaluation.{sort_is, prod_is, lambda_is, ind_is, construct_is, fix_is, family, constructor, fixpoint, Evaluates, Unfolds, unfolds, IsBuilt}
 use Rattle.calculus_rules.specs.Typing.{bare, Types, Recurses, recurses_here, recurses_later}
 use Rattle.calculus_rules.specs.Accepted.{IsAccepted}
-use Rattle.calculus_rules.proofs.Spines.{apply_one_more}
+use Rattle.calculus_rules.proofs.Spines.{apply_one_more, substitute-apply}
 use Rattle.typing_laws.proofs.Generating.{of_sort, of_prod, of_lambda, of_construct}
-use Rattle.typing_laws.proofs.Telescopes.{substitute-apply, products_append}
+use Rattle.typing_laws.proofs.Telescopes.{products_append}
 use Rattle.typing_laws.proofs.Traversal.{types_at, below_at}
 use Rattle.type_laws.specs.Contexts.{IsContext}
 use Rattle.type_laws.specs.Laws.{ValuesAreConstructors}

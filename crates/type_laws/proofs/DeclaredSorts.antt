@@ -26,10 +26,10 @@ use Rattle.calculus_rules.specs.Instances.{products, entries_at, predicate_entri
 use Rattle.calculus_rules.specs.Typing.{Mode, bare, Types, rel, sort, prod, lambda, let_in, app, const, ind, construct, case, fix, conv, TypesAll, no_terms, term, Entries, no_entries, entry, Branches, no_branches, branch, Sorts, no_types, a_type, Bodies, no_bodies, a_body, EntrySorts, no_sorts, a_sort}
 use Rattle.calculus_rules.specs.Accepted.{Accepted, empty, constant, block, BlockFits, ConstructorFits, IsAccepted, env}
 use Rattle.calculus_rules.proofs.Spines.{one_item}
-use Rattle.typing_laws.proofs.AcceptedClosed.{mapped}
 use Rattle.typing_laws.proofs.RenamingAndPutting.{lifted_some}
 use Rattle.type_laws.specs.Contexts.{IsContext, IsContext.empty, assume, define}
 use Rattle.type_laws.proofs.EnvironmentSorts.{kept_is_known}
+use Rattle.calculus_rules.proofs.Listing.{from_map}
 
 -- declared sorts: what is declared hangs on the number of levels alone
 
@@ -199,14 +199,16 @@ family_in : (n : ℕ) (B : Block) (i : ℕ) (F : FamilyDecl) → DeclaredHeads n
 family_in n B i F h (G, at, e) = subst (DeclaredFamily n) e (record { parameters = h.parameters; indices = (h.families i G at).0; sort = (h.families i G at).1 })
 
 known_declared : (E : Env) → AllKept E.levels E.declarations → (f : FamilyId) (F : FamilyDecl) → KnowsFamily E f F → DeclaredFamily E.levels F
-known_declared E D f F (B, inl h, q, e) = family_in E.levels B f.family F (D (Whole B) h).0 (mapped (with_parameters B.params) (slice_get B.families f.family) F e)
-known_declared E D f F (B, inr h, q, e) = family_in E.levels B f.family F (D (Heads B) h) (mapped (with_parameters B.params) (slice_get B.families f.family) F e)
+known_declared E D f F (B, inl h, q, e) =
+    let (G, at, p) = from_map (with_parameters B.params) (slice_get B.families f.family) F e in family_in E.levels B f.family F (D (Whole B) h).0 (G, at, sym p)
+known_declared E D f F (B, inr h, q, e) =
+    let (G, at, p) = from_map (with_parameters B.params) (slice_get B.families f.family) F e in family_in E.levels B f.family F (D (Heads B) h) (G, at, sym p)
 
 constructor_declared : (E : Env) → AllKept E.levels E.declarations → (f : FamilyId) (F : FamilyDecl) (j : ℕ) (C : Constructor) → KeepsFamily E f F → slice_get F.constructors j ≡ Some C →
     EachDeclared E.levels C.args × EachDeclared E.levels C.result
 constructor_declared E D f F j C (B, h, q, e) at =
-    let (G, i, g) = mapped (with_parameters B.params) (slice_get B.families f.family) F e in
-    (D (Whole B) h).1 f.family j G C i (ap (λ F. slice_get F.constructors j) g ∙ at)
+    let (G, i, g) = from_map (with_parameters B.params) (slice_get B.families f.family) F e in
+    (D (Whole B) h).1 f.family j G C i (ap (λ F. slice_get F.constructors j) (sym g) ∙ at)
 
 -- the entries of a predicate and of a branch
 
@@ -321,8 +323,8 @@ heads_declared n B h = record { parameters = h.parameters; families = families }
   where
     families : (i : ℕ) (H : Family) → slice_get (map head_of B.families) i ≡ Some H → EachDeclared n H.indices × SortOver n H.sort
     families i H e =
-        let (G, at, q) = mapped head_of (slice_get B.families i) H (sym (slice_get-map head_of B.families i) ∙ e) in
-        subst (λ H. EachDeclared n H.indices × SortOver n H.sort) q (h.families i G at)
+        let (G, at, q) = from_map head_of (slice_get B.families i) H (sym (slice_get-map head_of B.families i) ∙ e) in
+        subst (λ H. EachDeclared n H.indices × SortOver n H.sort) (sym q) (h.families i G at)
 
 block_heads : (n : ℕ) (cs : List Constraint) (ds : List Kept) (B : Block) (H : Env) → AllKept n ds → BlockFits (env n cs ds) H B → DeclaredHeads n B
 block_heads n cs ds B H D p =

@@ -22,7 +22,7 @@ use Rattle.calculus_rules.specs.Accepted.{Accepted, empty, constant, block, IsAc
 use Rattle.calculus_rules.proofs.Bare.{bare_types, bare_all, bare_entries}
 use Rattle.trees.proofs.Fusion.{rename-rename, substitute_rel}
 use Rattle.trees.proofs.Put.{substitute_whole}
-use Rattle.typing_laws.proofs.AcceptedClosed.{accepted_closed, mapped, no_heads}
+use Rattle.typing_laws.proofs.AcceptedClosed.{accepted_closed, no_heads}
 use Rattle.typing_laws.proofs.KeptSorts.{argument_sorts}
 use Rattle.typing_laws.proofs.ClosedTypes.{closed_family_type}
 use Rattle.typing_laws.proofs.Declarations.{Extends, one_more, extends_types, extends_all, extends_entries}
@@ -34,6 +34,7 @@ use Rattle.type_laws.proofs.TelescopeParts.{all_append}
 use Rattle.type_laws.proofs.ContextConversion.{Widens, widens_extend, widens_types, widens_entries}
 use Rattle.typing_laws.proofs.DeclaredBlock.{declared}
 use Rattle.typing_laws.proofs.MiddleEntries.{lift_none}
+use Rattle.calculus_rules.proofs.Listing.{from_map}
 
 -- each context widens the empty one
 pub widens_none : {E : Env} (c : Context) → Widens E [] c
@@ -99,8 +100,8 @@ known_is_kept E h f F (B, inr k, q, i) = absurd (no_heads h.declarations k)
 
 family_sorts : (E : Env) → IsAccepted E → (f : FamilyId) (F : FamilyDecl) → KeepsFamily E f F → FamilySorts E F
 family_sorts E h f F (B, k, q, i) =
-    let (G, at, e) = mapped (with_parameters B.params) (slice_get B.families f.family) F i in
-    subst (FamilySorts E) e (kept_sorts f.family G h.declarations k at)
+    let (G, at, e) = from_map (with_parameters B.params) (slice_get B.families f.family) F i in
+    subst (FamilySorts E) (sym e) (kept_sorts f.family G h.declarations k at)
 
 pub parameters_sorted : (E : Env) → IsAccepted E → (c : Context) (f : FamilyId) (F : FamilyDecl) → KnowsFamily E f F → Entries bare E c F.parameters
 parameters_sorted E h c f F q = widens_entries (accepted_closed E h) (widens_none c) (family_sorts E h f F (known_is_kept E h f F q)).parameters

@@ -19,7 +19,7 @@ use Rattle.calculus_rules.specs.Accepted.{IsAccepted}
 use Rattle.typing_laws.proofs.ClosedEnv.{ClosedFamily}
 use Rattle.typing_laws.proofs.AcceptedClosed.{accepted_closed}
 use Rattle.typing_laws.proofs.Generating.{of_prod}
-use Rattle.typing_laws.proofs.Telescopes.{substitute-apply, substituted_entries, entries_at_length, each_lift-substitute, substitute_predicate_entries}
+use Rattle.typing_laws.proofs.Telescopes.{substituted_entries, entries_at_length, each_lift-substitute, substitute_predicate_entries}
 use Rattle.typing_laws.proofs.Traversal.{types_at, equal_at, substitute_types, substitute_types_all, substitute_equal, types_length}
 use Rattle.typing_laws.proofs.RenamingAndPutting.{weaken_types, PutsEntries, putting, putting_values}
 use Rattle.typing_laws.proofs.PuttingAll.{puts_all}
@@ -32,6 +32,7 @@ use Rattle.type_laws.proofs.PutLists.{variables_put}
 use Rattle.type_laws.proofs.Spines.{spine_typed}
 use Rattle.type_laws.proofs.Validity.{scrutinee_fits, types_have_sorts}
 use Rattle.type_laws.proofs.Over.{Over, over_none, over_types, over_equal, over_extend}
+use Rattle.calculus_rules.proofs.Spines.{substitute-apply}
 
 -- terms
 

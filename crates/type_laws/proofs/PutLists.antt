@@ -9,7 +9,7 @@ use Rattle.pc_terms.specs.Syntax.{Term, Rel, Ind, Construct, first, overs, subst
 use Rattle.pc_terms.specs.declared.leaf.FamilyId.{FamilyId}
 use Rattle.calculus_rules.specs.declared.declaration.Constructor.{Constructor}
 use Rattle.calculus_rules.specs.Instances.{result_at, built_at, branch_type}
-use Rattle.typing_laws.proofs.Telescopes.{substitute-apply}
+use Rattle.calculus_rules.proofs.Spines.{substitute-apply}
 
 -- two lists put in one after the other
 pub put_all_append : (xs ys : List Term) (s : ℕ → Term) → put_all (xs ++ ys) s ≡ put_all ys (put_all xs s)

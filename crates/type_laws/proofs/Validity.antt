@@ -15,11 +15,11 @@ use Rattle.calculus_rules.specs.Step.{zeta}
 use Rattle.calculus_rules.specs.Instances.{products, predicate_entries, family_type}
 use Rattle.calculus_rules.specs.Typing.{bare, Types, rel, sort, prod, lambda, let_in, app, const, ind, construct, case, fix, conv, TypesAll, no_terms, term, Sorts, no_types, a_type}
 use Rattle.calculus_rules.specs.Accepted.{IsAccepted}
-use Rattle.calculus_rules.proofs.Spines.{one_item}
+use Rattle.calculus_rules.proofs.Spines.{one_item, substitute-apply}
 use Rattle.calculus_rules.proofs.OneEach.{one_of_each}
 use Rattle.typing_laws.specs.Substituting.{Fits}
 use Rattle.typing_laws.proofs.AcceptedClosed.{accepted_closed}
-use Rattle.typing_laws.proofs.Telescopes.{substitute-apply, products_append}
+use Rattle.typing_laws.proofs.Telescopes.{products_append}
 use Rattle.typing_laws.proofs.Traversal.{types_at, substitute_types, types_length}
 use Rattle.typing_laws.proofs.RenamingAndPutting.{PutsEntries, putting, puts_one, lifted_some, weaken_types}
 use Rattle.typing_laws.proofs.PuttingAll.{puts_first, puts_none, types_entries}

@@ -2,7 +2,7 @@
 //!
 //! Each type of a term has a sort (`types_have_sorts`), reduction keeps types (`reduction_keeps_types`), two types of a term have one below both
 //! (`types_have_a_common_one`), and what evaluation leaves of a family is a constructor (`values_are_constructors`). So each evaluation of a typed closed term is
-//! lawful, which is the premise of the simulation by erased programs (`evaluations_are_lawful`).
+//! lawful, by which the simulation by erased programs goes (`evaluations_are_lawful`).
 //!
 //! Below stand `calculus_rules` with the definitions, `equality_laws` with confluence and `typing_laws` with generation, weakening and substitution; above stand
 //! `headline`, which by these laws asks of main's evaluation nothing more, and `progress`, which says where evaluation

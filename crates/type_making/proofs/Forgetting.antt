@@ -1,11 +1,10 @@
 -- But for the items, the types and the definitions of a fixpoint are made as the directed rules go through them; so its guard may be asked.
 use Rattle.std.proofs.Common.{subst, ℕ, suc, Ok, List, [], ◌∷◌, length}
 use Rattle.pc_terms.specs.Formed.{EachTerm, HasForm, IsFormed}
-use Rattle.pc_terms.specs.Syntax.{Term, Terms, Done, Next, Fix, shift, head}
+use Rattle.pc_terms.specs.Syntax.{Term, Terms, Done, Next, Fix, shift, head, list_of}
 use Rattle.calculus_rules.specs.Environment.{Env}
 use Rattle.calculus_rules.specs.Context.{Context, values}
 use Rattle.calculus_rules.specs.Instances.{definitions}
-use Rattle.calculus_rules.specs.Listed.{list_of}
 use Rattle.pc_rules.specs.declared.broken.Broken.TheVariants.{RecArgNotInductive}
 use Rattle.pc_rules.specs.DirectedComparison.{Comparison, compare}
 use Rattle.pc_rules.specs.DirectedTyping.{Typing, infer, recursive_domain, enough_abstractions, is_a_family, family_found, definition_rule, definitions_rule}

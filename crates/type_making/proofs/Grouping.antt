@@ -1,6 +1,6 @@
 -- Runs that write, one after the other, are the same however they are grouped.
-use Rattle.std.proofs.Common.{◌≡◌, ◌∙◌, ap, refl, subst, ◌||◌, Result, Ok, Err, Bool, true, false, [], ◌++◌}
-use Rattle.std.proofs.Math.Bool.{or_assoc}
+use Rattle.std.proofs.Common.{◌≡◌, ◌∙◌, ap, refl, subst, ◌||◌, Result, Ok, Err, Bool, false, [], ◌++◌}
+use Rattle.std.proofs.Math.Bool.{or_assoc, or-false}
 use Rattle.std.proofs.lemmas.List.{append_assoc}
 use Rattle.pc_rules.specs.declared.meter.Account.{Account}
 use Rattle.pc_rules.specs.declared.stop.Halt.{Halt}
@@ -10,10 +10,6 @@ use Rattle.cert_rules.specs.Writing.{Wrote, wrote, writing_steps, silent, end_be
 use Rattle.script_making.specs.declared.draft.Draft.{Draft}
 use Rattle.script_making.specs.Makes.{Makes}
 use Rattle.script_making.proofs.Making.{makes_on, makes_err}
-
-or_false : (a : Bool) → (a || false) ≡ a
-or_false true = refl
-or_false false = refl
 
 nothing_before : {A : Type 0} (e : End (Wrote A)) → end_before [] e ≡ e
 nothing_before (Done w u) = refl
@@ -48,9 +44,9 @@ module _ {A B C : Type 0} (f : A → Account → Run (Wrote B)) (g : B → Accou
     end = then_before w.items g (f w.value u).end i;
     deep = (ap (λ x. (b || (f w.value u).deep) || x) (deep_before w.items (f w.value u).end (λ y v. (g y v).deep)) ∙ or_assoc b (f w.value u).deep (deep_then (f w.value u).end (λ x v. (g x.value v).deep))) i;
   }
-  assoc_at (Refused x u) b = λ i. record { end = Refused x u; deep = or_false (b || false) i }
-  assoc_at NoUnit b = λ i. record { end = NoUnit; deep = or_false (b || false) i }
-  assoc_at Nested b = λ i. record { end = Nested; deep = or_false (b || false) i }
+  assoc_at (Refused x u) b = λ i. record { end = Refused x u; deep = or-false (b || false) i }
+  assoc_at NoUnit b = λ i. record { end = NoUnit; deep = or-false (b || false) i }
+  assoc_at Nested b = λ i. record { end = Nested; deep = or-false (b || false) i }
 
   pub write_assoc : (d : Run (Wrote A)) → write_on (write_on d f) g ≡ write_on d (λ a u. write_on (f a u) g)
   write_assoc d = assoc_at d.end d.deep

@@ -4,7 +4,7 @@ use Rattle.universe_levels.specs.declared.sort.Sort.{Sort}
 use Rattle.trees.specs.Measures.{IsBeyond}
 use Rattle.trees.specs.Substitution.{lift}
 use Rattle.trees.proofs.Cutoffs.{lift-shift}
-use Rattle.pc_terms.specs.Syntax.{Term, first, put_all, substitute, shift, head}
+use Rattle.pc_terms.specs.Syntax.{Term, first, put_all, substitute, shift, head, list_of}
 use Rattle.pc_terms.proofs.Parts.{rargs_length}
 use Rattle.pc_terms.specs.Lists.{arms_of, rargs_of, types_of, bodies_of}
 use Rattle.pc_terms.specs.declared.leaf.FamilyId.{FamilyId}
@@ -16,7 +16,6 @@ use Rattle.calculus_rules.specs.declared.declaration.Constructor.{Constructor}
 use Rattle.calculus_rules.specs.declared.entry.Entry.TheVariants.{Assumed}
 use Rattle.calculus_rules.specs.Environment.{Env}
 use Rattle.calculus_rules.specs.Context.{Context, values}
-use Rattle.calculus_rules.specs.Listed.{list_of}
 use Rattle.pc_rules.specs.declared.broken.Broken.TheVariants.{NotEnoughAbstractions, RecArgNotInductive}
 use Rattle.pc_rules.specs.declared.meter.Account.{Account}
 use Rattle.pc_rules.specs.declared.stop.Halt.{Halt}
@@ -28,11 +27,11 @@ use Rattle.pc_rules.proofs.ListSteps.{next_is, none_left, min_either}
 use Rattle.cert_rules.specs.Writing.{Wrote, WriteAct, silent, write_on}
 use Rattle.cert_rules.specs.MakingTyping.{MakeTyping, MakeComparison, make_whnf, make_sort_of, make_sorts_of, make_check, make_check_all, make_branch, make_branches, make_types, make_definition, make_definitions}
 use Rattle.type_infer.proofs.Fixing.{is_family as family_is, no_family_found as no_family}
-use Rattle.type_infer.proofs.Matching.{put_more}
 use Rattle.script_making.specs.declared.draft.Draft.{Draft}
 use Rattle.script_making.specs.Makes.{Makes}
 use Rattle.script_making.proofs.Making.{makes_on, makes_err, makes_done, makes_answers, makes_silent, makes_made, makes_fault}
 use Rattle.type_making.proofs.Grouping.{write_assoc, done_on}
+use Rattle.calculus_rules.proofs.Spines.{put_more}
 
 -- the entries of a telescope
 

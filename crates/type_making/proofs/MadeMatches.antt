@@ -5,12 +5,11 @@ use Rattle.pc_terms.specs.declared.term.Match.{Match}
 use Rattle.pc_terms.specs.declared.term.MakeFault.{MakeFault}
 use Rattle.pc_terms.specs.declared.term.MakeFault.TheVariants.{TooDeep as DeepTerm}
 use Rattle.pc_terms.specs.Lists.{arms_of}
-use Rattle.pc_terms.specs.Syntax.{Term, Rel}
+use Rattle.pc_terms.specs.Syntax.{Term, Rel, list_of}
 use Rattle.calculus_rules.specs.declared.declaration.Block.{Block}
 use Rattle.calculus_rules.specs.Environment.{Env, FamilyDecl}
 use Rattle.calculus_rules.specs.Context.{Context}
 use Rattle.calculus_rules.specs.Instances.{predicate_at}
-use Rattle.calculus_rules.specs.Listed.{list_of}
 use Rattle.calculus_rules.specs.Lookups.{kept_at, whole_block}
 use Rattle.calculus_rules.proofs.Listing.{listed}
 use Rattle.pc_rules.specs.declared.meter.Account.{Account}

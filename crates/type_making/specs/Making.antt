@@ -2,7 +2,7 @@
 use Rattle.std.specs.Prelude.{ℕ, Bool, List, Some, length}
 use Rattle.universe_levels.specs.declared.sort.Sort.{Sort}
 use Rattle.trees.specs.Tree.{terms_of}
-use Rattle.pc_terms.specs.Syntax.{Term}
+use Rattle.pc_terms.specs.Syntax.{Term, list_of}
 use Rattle.pc_terms.specs.Lists.{arms_of, types_of, bodies_of, rargs_of}
 use Rattle.pc_terms.specs.declared.term.Branch.{Branch}
 use Rattle.pc_terms.specs.declared.term.Def.{Def}
@@ -12,7 +12,6 @@ use Rattle.calculus_rules.specs.declared.declaration.Constructor.{Constructor}
 use Rattle.calculus_rules.specs.declared.declaration.Family.{Family}
 use Rattle.calculus_rules.specs.Environment.{Env, with_parameters}
 use Rattle.calculus_rules.specs.Context.{Context}
-use Rattle.calculus_rules.specs.Listed.{list_of}
 use Rattle.pc_rules.specs.declared.meter.Account.{Account}
 use Rattle.pc_rules.specs.DirectedRun.{Run, done}
 use Rattle.pc_rules.specs.Entailment.{test_of}

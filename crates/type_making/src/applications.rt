@@ -1,5 +1,6 @@
 //! Applications: rule 6, which puts the arguments in all at once where the types of functions are written as products (`type_infer`: `pending`).
 ghost use Rattle.std.specs.Prelude.{◌≡◌, ◌+◌};
+ghost use Rattle.pc_rules.specs.DirectedRun.{most_nested};
 ghost use Rattle.type_infer.specs.Ready.{IsReady};
 ghost use Rattle.script_making.specs.Makes.{Makes};
 ghost use Rattle.type_making.specs.Making.{app_making, infer_making};
@@ -30,7 +31,7 @@ impl<R: Reducer, G: Guarder> TypeMaker<'_, R, G> {
         argument: &Term,
         draft: &mut Draft,
     ) -> Result<Term, Halt>
-        requires nest { self.now.maker.room + draft.old.meter.nest ≡ 2048 }
+        requires nest { self.now.maker.room + draft.old.meter.nest ≡ most_nested }
         requires ready { IsReady self.now.maker.env.now ctx.now }
         ensures makes { Makes (app_making self.now.maker.env.now self.now.maker.room ctx.now function.now argument.now draft.old.meter.account) result draft.old draft.new }
     {
@@ -48,7 +49,7 @@ impl<R: Reducer, G: Guarder> TypeMaker<'_, R, G> {
         argument: &Term,
         draft: &mut Draft,
     ) -> Result<PendingType, Halt>
-        requires nest { self.now.maker.room + draft.old.meter.nest ≡ 2048 }
+        requires nest { self.now.maker.room + draft.old.meter.nest ≡ most_nested }
         requires ready { IsReady self.now.maker.env.now ctx.now }
         ensures makes { MakesPending (app_making self.now.maker.env.now self.now.maker.room ctx.now function.now argument.now draft.old.meter.account) result draft.old draft.new }
     {
@@ -78,7 +79,7 @@ impl<R: Reducer, G: Guarder> TypeMaker<'_, R, G> {
         argument: &Term,
         draft: &mut Draft,
     ) -> Result<PendingType, Halt>
-        requires nest { self.now.maker.room + draft.old.meter.nest ≡ 2048 }
+        requires nest { self.now.maker.room + draft.old.meter.nest ≡ most_nested }
         requires ready { IsReady self.now.maker.env.now ctx.now }
         ensures makes { MakesPending (reduced_making self.now.maker.env.now self.now.maker.room ctx.now argument.now ty.now draft.old.meter.account) result draft.old draft.new }
     {
@@ -102,7 +103,7 @@ impl<R: Reducer, G: Guarder> TypeMaker<'_, R, G> {
         t: &Term,
         draft: &mut Draft,
     ) -> Result<PendingType, Halt>
-        requires nest { self.now.maker.room + draft.old.meter.nest ≡ 2048 }
+        requires nest { self.now.maker.room + draft.old.meter.nest ≡ most_nested }
         requires ready { IsReady self.now.maker.env.now ctx.now }
         ensures makes { MakesPending (infer_making self.now.maker.env.now self.now.maker.room ctx.now t.now draft.old.meter.account) result draft.old draft.new }
     {
@@ -125,7 +126,7 @@ impl<R: Reducer, G: Guarder> TypeMaker<'_, R, G> {
         argument: &Term,
         draft: &mut Draft,
     ) -> Result<PendingType, Halt>
-        requires nest { self.now.maker.room + draft.old.meter.nest ≡ 2048 }
+        requires nest { self.now.maker.room + draft.old.meter.nest ≡ most_nested }
         requires ready { IsReady self.now.maker.env.now ctx.now }
         ensures makes { MakesPending (infer_making self.now.maker.env.now self.now.maker.room ctx.now (App function.now argument.now) draft.old.meter.account) result draft.old draft.new }
     {

@@ -1,5 +1,6 @@
 //! Products, lambdas and lets: rules 3 to 5.
 ghost use Rattle.std.specs.Prelude.{◌≡◌, ◌+◌};
+ghost use Rattle.pc_rules.specs.DirectedRun.{most_nested};
 ghost use Rattle.type_infer.specs.Ready.{IsReady};
 ghost use Rattle.script_making.specs.Makes.{Makes};
 ghost use Rattle.type_making.specs.Making.{prod_making, lambda_making, let_making};
@@ -26,7 +27,7 @@ impl<R: Reducer, G: Guarder> TypeMaker<'_, R, G> {
         codomain: &Term,
         draft: &mut Draft,
     ) -> Result<Term, Halt>
-        requires nest { self.now.maker.room + draft.old.meter.nest ≡ 2048 }
+        requires nest { self.now.maker.room + draft.old.meter.nest ≡ most_nested }
         requires ready { IsReady self.now.maker.env.now ctx.now }
         ensures makes { Makes (prod_making self.now.maker.env.now self.now.maker.room ctx.now domain.now codomain.now draft.old.meter.account) result draft.old draft.new }
     {
@@ -47,7 +48,7 @@ impl<R: Reducer, G: Guarder> TypeMaker<'_, R, G> {
         body: &Term,
         draft: &mut Draft,
     ) -> Result<Term, Halt>
-        requires nest { self.now.maker.room + draft.old.meter.nest ≡ 2048 }
+        requires nest { self.now.maker.room + draft.old.meter.nest ≡ most_nested }
         requires ready { IsReady self.now.maker.env.now ctx.now }
         ensures makes { Makes (lambda_making self.now.maker.env.now self.now.maker.room ctx.now domain.now body.now draft.old.meter.account) result draft.old draft.new }
     {
@@ -68,7 +69,7 @@ impl<R: Reducer, G: Guarder> TypeMaker<'_, R, G> {
         body: &Term,
         draft: &mut Draft,
     ) -> Result<Term, Halt>
-        requires nest { self.now.maker.room + draft.old.meter.nest ≡ 2048 }
+        requires nest { self.now.maker.room + draft.old.meter.nest ≡ most_nested }
         requires ready { IsReady self.now.maker.env.now ctx.now }
         ensures makes { Makes (let_making self.now.maker.env.now self.now.maker.room ctx.now value.now ty.now body.now draft.old.meter.account) result draft.old draft.new }
     {

@@ -1,5 +1,6 @@
 //! The branches of a match.
 ghost use Rattle.std.specs.Prelude.{◌≡◌, ◌+◌};
+ghost use Rattle.pc_rules.specs.DirectedRun.{most_nested};
 ghost use Rattle.type_infer.specs.Ready.{IsReady};
 ghost use Rattle.script_making.specs.Makes.{Makes};
 ghost use Rattle.type_making.specs.Making.{branch_making, branches_making};
@@ -29,7 +30,7 @@ impl<R: Reducer, G: Guarder> TypeMaker<'_, R, G> {
         body: &Term,
         draft: &mut Draft,
     ) -> Result<(), Halt>
-        requires nest { self.now.maker.room + draft.old.meter.nest ≡ 2048 }
+        requires nest { self.now.maker.room + draft.old.meter.nest ≡ most_nested }
         requires ready { IsReady self.now.maker.env.now ctx.now }
         ensures makes { Makes (branch_making self.now.maker.env.now self.now.maker.room ctx.now place ctor.now x.now body.now draft.old.meter.account) result draft.old draft.new }
     {
@@ -49,7 +50,7 @@ impl<R: Reducer, G: Guarder> TypeMaker<'_, R, G> {
         x: &Match,
         draft: &mut Draft,
     ) -> Result<(), Halt>
-        requires nest { self.now.maker.room + draft.old.meter.nest ≡ 2048 }
+        requires nest { self.now.maker.room + draft.old.meter.nest ≡ most_nested }
         requires ready { IsReady self.now.maker.env.now ctx.now }
         ensures makes { Makes (branches_making self.now.maker.env.now self.now.maker.room ctx.now 0 ctors.now x.now x.now.branches draft.old.meter.account) result draft.old draft.new }
     {

@@ -1,6 +1,7 @@
 //! Conversion: the sort of a term, a term against a type, and a type in place of another.
 ghost use Rattle.std.specs.Prelude.{◌≡◌, ◌+◌, false, IfOk};
 ghost use Rattle.pc_rules.specs.WellCounted.{IsCounted};
+ghost use Rattle.pc_rules.specs.DirectedRun.{most_nested};
 ghost use Rattle.type_infer.specs.Ready.{IsReady};
 ghost use Rattle.script_making.specs.Makes.{Makes};
 ghost use Rattle.type_making.specs.Making.{sort_making, fits_making, check_making, retype_making};
@@ -29,7 +30,7 @@ impl<R: Reducer, G: Guarder> TypeMaker<'_, R, G> {
         t: &Term,
         draft: &mut Draft,
     ) -> Result<Sort, Halt>
-        requires nest { self.now.maker.room + draft.old.meter.nest ≡ 2048 }
+        requires nest { self.now.maker.room + draft.old.meter.nest ≡ most_nested }
         requires ready { IsReady self.now.maker.env.now ctx.now }
         ensures makes { Makes (sort_making self.now.maker.env.now self.now.maker.room ctx.now t.now draft.old.meter.account) result draft.old draft.new }
         ensures counted { IfOk result (λ _. IsCounted self.now.maker.env.now t.now) }
@@ -60,7 +61,7 @@ impl<R: Reducer, G: Guarder> TypeMaker<'_, R, G> {
         ty: &Term,
         draft: &mut Draft,
     ) -> Result<(), Halt>
-        requires nest { self.now.maker.room + draft.old.meter.nest ≡ 2048 }
+        requires nest { self.now.maker.room + draft.old.meter.nest ≡ most_nested }
         requires ready { IsReady self.now.maker.env.now ctx.now }
         requires found { IsCounted self.now.maker.env.now found.now }
         ensures makes { Makes (fits_making self.now.maker.env.now self.now.maker.room ctx.now false found.now ty.now draft.old.meter.account) result draft.old draft.new }
@@ -82,7 +83,7 @@ impl<R: Reducer, G: Guarder> TypeMaker<'_, R, G> {
         ty: &Term,
         draft: &mut Draft,
     ) -> Result<(), Halt>
-        requires nest { self.now.maker.room + draft.old.meter.nest ≡ 2048 }
+        requires nest { self.now.maker.room + draft.old.meter.nest ≡ most_nested }
         requires ready { IsReady self.now.maker.env.now ctx.now }
         ensures makes { Makes (check_making self.now.maker.env.now self.now.maker.room ctx.now t.now ty.now draft.old.meter.account) result draft.old draft.new }
         ensures counted { IfOk result (λ _. IsCounted self.now.maker.env.now t.now) }
@@ -105,7 +106,7 @@ impl<R: Reducer, G: Guarder> TypeMaker<'_, R, G> {
         whnf: &Term,
         draft: &mut Draft,
     ) -> Result<(), Halt>
-        requires nest { self.now.maker.room + draft.old.meter.nest ≡ 2048 }
+        requires nest { self.now.maker.room + draft.old.meter.nest ≡ most_nested }
         requires ready { IsReady self.now.maker.env.now ctx.now }
         ensures makes { Makes (retype_making self.now.maker.env.now self.now.maker.room ctx.now ty.now whnf.now draft.old.meter.account) result draft.old draft.new }
     {

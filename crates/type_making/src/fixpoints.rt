@@ -5,6 +5,7 @@ ghost use Rattle.pc_terms.specs.Lists.{types_of};
 ghost use Rattle.pc_terms.specs.View.{tree_of};
 ghost use Rattle.pc_terms.specs.declared.term.Node.TheVariants.{Fix};
 ghost use Rattle.calculus_rules.specs.Instances.{definitions};
+ghost use Rattle.pc_rules.specs.DirectedRun.{most_nested};
 ghost use Rattle.type_infer.specs.Ready.{IsReady, done_with};
 ghost use Rattle.script_making.specs.Makes.{Makes};
 ghost use Rattle.type_making.specs.Making.{types_making, definition_making, definitions_making, fix_making};
@@ -31,7 +32,7 @@ impl<R: Reducer, G: Guarder> TypeMaker<'_, R, G> {
         defs: &Defs,
         draft: &mut Draft,
     ) -> Result<Ctx, Halt>
-        requires nest { self.now.maker.room + draft.old.meter.nest ≡ 2048 }
+        requires nest { self.now.maker.room + draft.old.meter.nest ≡ most_nested }
         requires ready { IsReady self.now.maker.env.now ctx.now }
         ensures makes { Makes (types_making self.now.maker.env.now self.now.maker.room ctx.now 0 defs.now draft.old.meter.account) (done_with result) draft.old draft.new }
         ensures under { IfOk result (λ d. d ≡ definitions ctx.now 0 (types_of defs.now)) }
@@ -61,7 +62,7 @@ impl<R: Reducer, G: Guarder> TypeMaker<'_, R, G> {
         def: &Def,
         draft: &mut Draft,
     ) -> Result<(), Halt>
-        requires nest { self.now.maker.room + draft.old.meter.nest ≡ 2048 }
+        requires nest { self.now.maker.room + draft.old.meter.nest ≡ most_nested }
         requires ready { IsReady self.now.maker.env.now under.now }
         ensures makes { Makes (definition_making self.now.maker.env.now self.now.maker.room under.now count number def.now draft.old.meter.account) result draft.old draft.new }
     {
@@ -86,7 +87,7 @@ impl<R: Reducer, G: Guarder> TypeMaker<'_, R, G> {
         defs: &Defs,
         draft: &mut Draft,
     ) -> Result<(), Halt>
-        requires nest { self.now.maker.room + draft.old.meter.nest ≡ 2048 }
+        requires nest { self.now.maker.room + draft.old.meter.nest ≡ most_nested }
         requires ready { IsReady self.now.maker.env.now under.now }
         ensures makes { Makes (definitions_making self.now.maker.env.now self.now.maker.room under.now (length defs.now) 0 defs.now draft.old.meter.account) result draft.old draft.new }
     {
@@ -112,7 +113,7 @@ impl<R: Reducer, G: Guarder> TypeMaker<'_, R, G> {
         index: u32,
         draft: &mut Draft,
     ) -> Result<Term, Halt>
-        requires nest { self.now.maker.room + draft.old.meter.nest ≡ 2048 }
+        requires nest { self.now.maker.room + draft.old.meter.nest ≡ most_nested }
         requires ready { IsReady self.now.maker.env.now ctx.now }
         requires whole { tree_of (Fix defs.now index) ≡ fix.now }
         requires formed { IsFormed fix.now }

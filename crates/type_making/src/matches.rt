@@ -1,5 +1,6 @@
 //! Matches: rule 10.
 ghost use Rattle.std.specs.Prelude.{◌≡◌, ◌+◌};
+ghost use Rattle.pc_rules.specs.DirectedRun.{most_nested};
 ghost use Rattle.type_infer.specs.Ready.{IsReady};
 ghost use Rattle.script_making.specs.Makes.{Makes};
 ghost use Rattle.type_making.specs.Making.{predicate_making, case_making};
@@ -30,7 +31,7 @@ impl<R: Reducer, G: Guarder> TypeMaker<'_, R, G> {
         x: &Match,
         draft: &mut Draft,
     ) -> Result<(), Halt>
-        requires nest { self.now.maker.room + draft.old.meter.nest ≡ 2048 }
+        requires nest { self.now.maker.room + draft.old.meter.nest ≡ most_nested }
         requires ready { IsReady self.now.maker.env.now ctx.now }
         ensures makes { Makes (predicate_making self.now.maker.env.now self.now.maker.room ctx.now block.now family.now x.now draft.old.meter.account) result draft.old draft.new }
     {
@@ -49,7 +50,7 @@ impl<R: Reducer, G: Guarder> TypeMaker<'_, R, G> {
         x: &Match,
         draft: &mut Draft,
     ) -> Result<Term, Halt>
-        requires nest { self.now.maker.room + draft.old.meter.nest ≡ 2048 }
+        requires nest { self.now.maker.room + draft.old.meter.nest ≡ most_nested }
         requires ready { IsReady self.now.maker.env.now ctx.now }
         ensures makes { Makes (case_making self.now.maker.env.now self.now.maker.room ctx.now x.now draft.old.meter.account) result draft.old draft.new }
     {

@@ -2,6 +2,7 @@
 ghost use Rattle.std.specs.Prelude.{◌≡◌, ◌+◌};
 ghost use Rattle.calculus_rules.specs.Same.{same};
 ghost use Rattle.pc_rules.specs.WellCounted.{IsCounted, AreCounted};
+ghost use Rattle.pc_rules.specs.DirectedRun.{most_nested};
 ghost use Rattle.type_infer.specs.Ready.{IsReady};
 ghost use Rattle.script_making.specs.Makes.{Makes};
 ghost use Rattle.type_making.specs.Making.{fits_making, scrutinee_making};
@@ -29,7 +30,7 @@ impl<R: Reducer, G: Guarder> TypeMaker<'_, R, G> {
         asked: &Term,
         draft: &mut Draft,
     ) -> Result<(), Halt>
-        requires nest { self.now.maker.room + draft.old.meter.nest ≡ 2048 }
+        requires nest { self.now.maker.room + draft.old.meter.nest ≡ most_nested }
         requires ready { IsReady self.now.maker.env.now ctx.now }
         requires found { IsCounted self.now.maker.env.now found.now }
         ensures makes { Makes (fits_making self.now.maker.env.now self.now.maker.room ctx.now (same asked.now found.now) found.now asked.now draft.old.meter.account) result draft.old draft.new }
@@ -51,7 +52,7 @@ impl<R: Reducer, G: Guarder> TypeMaker<'_, R, G> {
         x: &Match,
         draft: &mut Draft,
     ) -> Result<Terms, Halt>
-        requires nest { self.now.maker.room + draft.old.meter.nest ≡ 2048 }
+        requires nest { self.now.maker.room + draft.old.meter.nest ≡ most_nested }
         requires ready { IsReady self.now.maker.env.now ctx.now }
         requires params { AreCounted self.now.maker.env.now x.now.params }
         ensures makes { Makes (scrutinee_making self.now.maker.env.now self.now.maker.room ctx.now block.now family.now x.now draft.old.meter.account) result draft.old draft.new }

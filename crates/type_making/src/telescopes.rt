@@ -3,6 +3,7 @@ ghost use Rattle.std.specs.Prelude.{◌≡◌, ◌+◌, IfOk, length};
 ghost use Rattle.pc_terms.specs.Syntax.{Rel};
 ghost use Rattle.calculus_rules.specs.Context.{extend};
 ghost use Rattle.pc_rules.specs.WellCounted.{AreCounted};
+ghost use Rattle.pc_rules.specs.DirectedRun.{most_nested};
 ghost use Rattle.type_infer.specs.Ready.{IsReady, done_with};
 ghost use Rattle.script_making.specs.Makes.{Makes};
 ghost use Rattle.type_making.specs.Making.{entries_making, check_all_making};
@@ -29,7 +30,7 @@ impl<R: Reducer, G: Guarder> TypeMaker<'_, R, G> {
         entries: &Telescope,
         draft: &mut Draft,
     ) -> Result<Ctx, Halt>
-        requires nest { self.now.maker.room + draft.old.meter.nest ≡ 2048 }
+        requires nest { self.now.maker.room + draft.old.meter.nest ≡ most_nested }
         requires ready { IsReady self.now.maker.env.now ctx.now }
         ensures makes { Makes (entries_making self.now.maker.env.now self.now.maker.room ctx.now entries.now draft.old.meter.account) (done_with result) draft.old draft.new }
         ensures longer { IfOk result (λ d. d ≡ extend ctx.now entries.now) }
@@ -58,7 +59,7 @@ impl<R: Reducer, G: Guarder> TypeMaker<'_, R, G> {
         telescope: &Telescope,
         draft: &mut Draft,
     ) -> Result<(), Halt>
-        requires nest { self.now.maker.room + draft.old.meter.nest ≡ 2048 }
+        requires nest { self.now.maker.room + draft.old.meter.nest ≡ most_nested }
         requires ready { IsReady self.now.maker.env.now ctx.now }
         requires counts { length terms.now ≡ length telescope.now }
         ensures makes { Makes (check_all_making self.now.maker.env.now self.now.maker.room ctx.now (λ i. Rel (raise + i)) terms.now telescope.now draft.old.meter.account) result draft.old draft.new }

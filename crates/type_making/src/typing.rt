@@ -1,5 +1,6 @@
 //! Inference of types, which writes a certificate: the unit of each rule, and which rule a term has.
 ghost use Rattle.std.specs.Prelude.{◌≡◌, ◌+◌, IfOk};
+ghost use Rattle.pc_rules.specs.DirectedRun.{most_nested};
 ghost use Rattle.rule_laws.specs.Inference.{IsInferred};
 ghost use Rattle.type_infer.specs.Ready.{IsReady};
 ghost use Rattle.script_making.specs.Makes.{Makes};
@@ -28,7 +29,7 @@ impl<R: Reducer, G: Guarder> TypeMaker<'_, R, G> {
     /// A type of a term (PCUIC, typing): a unit, one more rule that stands, the note of its use, and the rule.
     #[cycle(infer)]
     pub fn infer(&self, alloc: Global, ctx: &Ctx, t: &Term, draft: &mut Draft) -> Result<Term, Halt>
-        requires nest { self.now.maker.room + draft.old.meter.nest ≡ 2048 }
+        requires nest { self.now.maker.room + draft.old.meter.nest ≡ most_nested }
         requires ready { IsReady self.now.maker.env.now ctx.now }
         ensures makes { Makes (infer_making self.now.maker.env.now self.now.maker.room ctx.now t.now draft.old.meter.account) result draft.old draft.new }
         ensures inferred { IfOk result (λ ty. IsInferred self.now.maker.env.now ctx.now t.now ty) }
@@ -56,7 +57,7 @@ impl<R: Reducer, G: Guarder> TypeMaker<'_, R, G> {
     /// The rule of a term.
     #[cycle(infer)]
     fn rule(&self, alloc: Global, ctx: &Ctx, t: &Term, draft: &mut Draft) -> Result<Term, Halt>
-        requires nest { self.now.maker.room + draft.old.meter.nest ≡ 2048 }
+        requires nest { self.now.maker.room + draft.old.meter.nest ≡ most_nested }
         requires ready { IsReady self.now.maker.env.now ctx.now }
         ensures makes { Makes (rule_making self.now.maker.env.now self.now.maker.room ctx.now t.now draft.old.meter.account) result draft.old draft.new }
     {

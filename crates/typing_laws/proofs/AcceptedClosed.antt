@@ -1,5 +1,5 @@
 -- An accepted environment is closed.
-use Rattle.std.proofs.Common.{◌≡◌, ℕ, suc, ◌+◌, List, [], length, Option, Some, None, inl, inr, refl, ap, ◌∙◌, subst, arith, slice_get, option_map}
+use Rattle.std.proofs.Common.{◌≡◌, ℕ, suc, ◌+◌, List, [], length, Option, Some, inl, inr, refl, sym, ap, ◌∙◌, subst, arith, slice_get}
 use Rattle.universe_levels.specs.declared.constraint.Constraint.{Constraint}
 use Rattle.pc_terms.specs.declared.leaf.Name.{Name}
 use Rattle.pc_terms.specs.declared.leaf.FamilyId.{FamilyId}
@@ -13,9 +13,9 @@ use Rattle.calculus_rules.specs.Environment.{FamilyDecl, Env, Has, here, there, 
 use Rattle.calculus_rules.specs.Context.{Context, extend}
 use Rattle.calculus_rules.specs.Typing.{Mode, TypesAll, no_terms, term}
 use Rattle.calculus_rules.specs.Accepted.{Accepted, empty, constant, block, BlockFits, FamilyFits, ConstructorFits, IsAccepted}
-use Rattle.calculus_rules.proofs.Spines.{one_item}
 use Rattle.typing_laws.proofs.ClosedEnv.{ClosedEnv, ClosedFamily, ClosedConstructor, ClosedEntries}
 use Rattle.typing_laws.proofs.TypedClosed.{types_closed, entry_sorts_closed, entries_closed, extend_length}
+use Rattle.calculus_rules.proofs.Listing.{from_map}
 
 list_closed : {m : Mode} {E : Env} {c : Context} {s : ℕ → Term} {ts As : List Term} → TypesAll m E c s ts As → ClosedEach (length c) ts
 list_closed no_terms = tt
@@ -70,11 +70,6 @@ no_heads empty h = elim h [ ]
 no_heads (constant a f p q) (there h) = no_heads a h
 no_heads (block a f p) (there h) = no_heads a h
 
--- what an item is mapped to comes from an item
-pub mapped : {A B : Type 0} (g : A → B) (o : Option A) (y : B) → option_map g o ≡ Some y → (x : A) × (o ≡ Some x) × (g x ≡ y)
-mapped g None y e = absurd (cc)
-mapped g (Some x) y e = (x, refl, one_item e)
-
 pub accepted_closed : (E : Env) → IsAccepted E → ClosedEnv E
 accepted_closed E accepted = record {
   types = λ k T b h. type_closed accepted.declarations h;
@@ -85,8 +80,8 @@ accepted_closed E accepted = record {
   where
     families : (f : FamilyId) (F : FamilyDecl) → KeepsFamily E f F → ClosedFamily F
     families f F (B, h, q, i) =
-        let (G, at, e) = mapped (with_parameters B.params) (slice_get B.families f.family) F i in
-        subst ClosedFamily e (kept_closed f.family G accepted.declarations h at)
+        let (G, at, e) = from_map (with_parameters B.params) (slice_get B.families f.family) F i in
+        subst ClosedFamily (sym e) (kept_closed f.family G accepted.declarations h at)
 
     known : (f : FamilyId) (F : FamilyDecl) → KnowsFamily E f F → ClosedEntries 0 F.parameters × ClosedEntries (length F.parameters) F.indices
     known f F (B, inl k, q, i) = let h = families f F (B, k, q, i) in (h.parameters, h.indices)

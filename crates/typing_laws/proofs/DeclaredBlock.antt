@@ -12,7 +12,7 @@ use Rattle.calculus_rules.specs.Environment.{FamilyDecl, Has, here, there, with_
 use Rattle.calculus_rules.specs.Instances.{family_type}
 use Rattle.calculus_rules.specs.Accepted.{block, env}
 use Rattle.typing_laws.proofs.Declarations.{Extends, KnowsType}
-use Rattle.typing_laws.proofs.AcceptedClosed.{mapped}
+use Rattle.calculus_rules.proofs.Listing.{from_map}
 
 -- the block that was being declared is kept
 pub declared : (levels : ℕ) (cs : List Constraint) (ds : List Kept) (B : Block) → Extends (env levels cs (Heads (heads_of B) ∷ ds)) (env levels cs (Whole B ∷ ds))
@@ -35,11 +35,11 @@ declared levels cs ds B = record {
         KnowsType (env levels cs (Whole B ∷ ds)) f D
     from_heads f D A (there h) q i = (D, (A, inr (there h), q, i), refl)
     from_heads f D A here q i =
-        let (H, at, e) = mapped (with_parameters B.params) (slice_get (map head_of B.families) f.family) D i in
-        let (G, there_it, e') = mapped head_of (slice_get B.families f.family) H (sym (slice_get-map head_of B.families f.family) ∙ at) in (
+        let (H, at, e) = from_map (with_parameters B.params) (slice_get (map head_of B.families) f.family) D i in
+        let (G, there_it, e') = from_map head_of (slice_get B.families f.family) H (sym (slice_get-map head_of B.families f.family) ∙ at) in (
           with_parameters B.params G,
           (B, inl here, q, ap (option_map (with_parameters B.params)) there_it),
-          ap (λ H. family_type (with_parameters B.params H)) e' ∙ ap family_type e,
+          ap (λ H. family_type (with_parameters B.params H)) (sym e') ∙ ap family_type (sym e),
         )
 
     known : (f : FamilyId) (D : FamilyDecl) → KnowsFamily (env levels cs (Heads (heads_of B) ∷ ds)) f D → KnowsType (env levels cs (Whole B ∷ ds)) f D

@@ -1,5 +1,5 @@
 -- The argument types of a kept constructor have their kept sorts over the whole environment.
-use Rattle.std.proofs.Common.{◌≡◌, ℕ, List, [], Some, ap, ◌∙◌, subst, slice_get}
+use Rattle.std.proofs.Common.{◌≡◌, ℕ, List, [], Some, sym, ap, ◌∙◌, subst, slice_get}
 use Rattle.universe_levels.specs.declared.constraint.Constraint.{Constraint}
 use Rattle.pc_terms.specs.declared.leaf.FamilyId.{FamilyId}
 use Rattle.calculus_rules.specs.declared.declaration.Constructor.{Constructor}
@@ -13,8 +13,8 @@ use Rattle.calculus_rules.specs.Typing.{bare, EntrySorts}
 use Rattle.calculus_rules.specs.Accepted.{Accepted, empty, constant, block, IsAccepted, env}
 use Rattle.calculus_rules.proofs.Bare.{bare_entry_sorts}
 use Rattle.typing_laws.proofs.Declarations.{one_more, extends_entry_sorts}
-use Rattle.typing_laws.proofs.AcceptedClosed.{mapped}
 use Rattle.typing_laws.proofs.DeclaredBlock.{declared}
+use Rattle.calculus_rules.proofs.Listing.{from_map}
 
 -- the kept sorts are the arguments' sorts
 abbrev pub ArgumentSorts : Env → Type 0
@@ -31,6 +31,6 @@ kept_sorts {levels} {cs} n c G C (block {ds = ds} a f p) (there h) e i = extends
 
 pub argument_sorts : (E : Env) → IsAccepted E → ArgumentSorts E
 argument_sorts E accepted f F c C (B, k, q, i) j =
-    let (G, at, e) = mapped (with_parameters B.params) (slice_get B.families f.family) F i in
-    subst (λ Ps. EntrySorts bare E (extend [] Ps) C.args C.arg_sorts) (ap (λ F. F.parameters) e)
-    (kept_sorts f.family c G C accepted.declarations k at (ap (λ F. slice_get F.constructors c) e ∙ j))
+    let (G, at, e) = from_map (with_parameters B.params) (slice_get B.families f.family) F i in
+    subst (λ Ps. EntrySorts bare E (extend [] Ps) C.args C.arg_sorts) (ap (λ F. F.parameters) (sym e))
+    (kept_sorts f.family c G C accepted.declarations k at (ap (λ F. slice_get F.constructors c) (sym e) ∙ j))

@@ -1,7 +1,7 @@
 -- Substitution over lists, telescopes, declared types: each lemma is stated for substitutions alone, since a renaming is one.
 use Rattle.std.proofs.Common.{◌≡◌, ℕ, zero, suc, ◌+◌, ◌≤◌, List, [], ◌∷◌, ◌++◌, length, refl, sym, ap, ◌∙◌, subst, arith, length-append, map}
 use mathlib.Core.Path.{fun_ext}
-use Rattle.pc_terms.specs.Syntax.{Prod, Term, Rel, Terms, App, Ind, Construct, Fix, over, overs, substitute, substitute_terms, put_all, apply, shift, variables, Closed, ClosedEach}
+use Rattle.pc_terms.specs.Syntax.{Prod, Term, Rel, Terms, Ind, Construct, Fix, over, overs, substitute, substitute_terms, put_all, apply, shift, variables, Closed, ClosedEach}
 use Rattle.pc_terms.specs.declared.leaf.FamilyId.{FamilyId}
 use Rattle.calculus_rules.specs.declared.declaration.Constructor.{Constructor}
 use Rattle.calculus_rules.specs.Environment.{FamilyDecl}
@@ -12,10 +12,7 @@ use Rattle.typing_laws.proofs.ClosedTypes.{entries_at_agree, fixpoints_length}
 use Rattle.trees.proofs.Fusion.{substitute-substitute, substitute_rel, overs_overs}
 use Rattle.trees.proofs.Cutoffs.{overs_past, overs_below}
 use Rattle.trees.proofs.Put.{overs_over, substitute-put_all, substitute-put_all_in, lift-substitute, put_closed, each_append, each_length, overs_agree, substitute_closed}
-
-pub substitute-apply : (s : ℕ → Term) (f : Term) (xs : List Term) → substitute s (apply f xs) ≡ apply (substitute s f) (map (substitute s) xs)
-substitute-apply s f [] = refl
-substitute-apply s f (a ∷ xs) = substitute-apply s (App f a) xs
+use Rattle.calculus_rules.proofs.Spines.{substitute-apply}
 
 pub substitute-fixpoints : (i n : ℕ) (rargs : List ℕ) (types bodies : Terms) (s : ℕ → Term) →
     map (substitute s) (fixpoints i n rargs types bodies) ≡ fixpoints i n rargs (substitute_terms s types) (substitute_terms s bodies)

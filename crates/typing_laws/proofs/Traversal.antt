@@ -16,7 +16,8 @@ use Rattle.calculus_rules.specs.Typing.{Recurses, recurses_here, recurses_later,
 use Rattle.calculus_rules.specs.Elimination.{MayEliminate}
 use Rattle.typing_laws.proofs.ClosedTypes.{Declared, closed_family_type, closed_constructor_type}
 use Rattle.trees.proofs.Put.{Agree, each_append, each_length, agree_none, agree_first, substitute_closed', substitute_whole, overs_over, substitute-put, substitute-put_all_in, substituted_term, term_at-substitute, lift-substitute, each_terms, number-substitute}
-use Rattle.typing_laws.proofs.Telescopes.{substitute-apply, substitute-unfolding, substituted_entries, entries_at_length, substitute_entries_at, substitute_predicate_entries, substitute_branch_type, suc_end}
+use Rattle.typing_laws.proofs.Telescopes.{substitute-unfolding, substituted_entries, entries_at_length, substitute_entries_at, substitute_predicate_entries, substitute_branch_type, suc_end}
+use Rattle.calculus_rules.proofs.Spines.{substitute-apply}
 
 abbrev pub substituted : (ℕ → Term) → Option Term → Option Term
 substituted s None = None

@@ -1,7 +1,7 @@
 -- What bytes spell meets the condition of modules.
 use Rattle.std.proofs.Common.{◌≡◌, inl, inr, ℕ, zero, suc, ◌+◌, ◌-◌, ◌^◌, ◌<◌, ◌≤◌, List, [], ◌∷◌, ◌++◌, length, take, drop, Option, Some, None, Bool, true, false, refl, sym, subst, arith, append_assoc, append-nil, length-append}
 use Rattle.std.specs.Prelude.{if◌then◌else◌, replicate, IsUtf8, nat_eq, not, ◌&&◌}
-use Rattle.std.proofs.lemmas.Bool.{leb-true, eqb-true}
+use Rattle.std.proofs.lemmas.Bool.{leb-true, eqb-true, not-false}
 use Rattle.std.proofs.lemmas.List.{length-replicate}
 use Rattle.std.proofs.Math.Pow.{pow_mono}
 use Rattle.std.proofs.lemmas.Option.{same_Some}
@@ -220,10 +220,6 @@ row_makes may (Zeroed i) p k w ws m h = let r = byte_makes 0 (k i) w ws m h in (
 row_makes may (Bits i) p k w ws m h = let (n, l, r) = s32_makes (λ n. k (i n)) w ws m h in (i n, p n l, r)
 row_makes may (LongBits i) p k w ws m h = let (n, l, r) = s64_makes (λ n. k (i n)) w ws m h in (i n, p n l, r)
 
-is_not : (may : Bool) → not may ≡ false → may ≡ true
-is_not true e = refl
-is_not false e = absurd cc
-
 -- what is found in a table meets what its key says
 found_by_key : {A : Type 0} (P : ℕ → A → Type 0) (b : ℕ) (rows : List (ℕ × A)) → All (λ r. P r.0 r.1) rows → (x : A) → find b rows ≡ Some x → P b x
 found_by_key P b [] a x e = absurd cc
@@ -250,7 +246,7 @@ opcodes_meet may b r e f = found_by_key (Allowed may) b opcodes (
         (
           λ f t. (tt, tt),
           (
-            λ f. (is_not may f, tt),
+            λ f. (not-false may f, tt),
             (
               λ f. (tt, tt),
               (

@@ -28,14 +28,11 @@ number_missing s bits w e at fits next ws = rw (← e) refl
 
 -- ---- parts
 
-le_true : (n m : ℕ) → n ≤ m → nat_le n m ≡ true
-le_true n m h = le-leb n m h
-
 pub size_taken : (w : List ℕ) (n k : ℕ) → Some (n, k) ≡ number_at false 32 w → (at : ℕ) → (rest inside after : List ℕ) → rest ≡ drop k w → n ≤ length rest → inside ≡ take n rest → after ≡ drop n rest →
     length inside ≡ n → (next : ℕ → Spelling) (ws : List (List ℕ)) → judge (Size next) at w ws ≡ judge (next (length inside)) (at + k) inside (after ∷ ws)
 unfolding judge
 size_taken w n k e at rest inside after r h i a l next ws =
-    let fits : nat_le n (length (drop k w)) ≡ true = le_true n _ (subst (λ r. n ≤ length r) r h) in
+    let fits : nat_le n (length (drop k w)) ≡ true = le-leb n _ (subst (λ r. n ≤ length r) r h) in
     rw (l, i, a, r, ← e, fits) refl
 
 pub size_past : (w : List ℕ) (n k : ℕ) → Some (n, k) ≡ number_at false 32 w → (at : ℕ) → (rest : List ℕ) → rest ≡ drop k w → length rest < n → (next : ℕ → Spelling) (ws : List (List ℕ)) → judge (Size next) at w ws ≡ Refused at
@@ -64,7 +61,7 @@ pub name_taken : (w : List ℕ) (n k : ℕ) → Some (n, k) ≡ number_at false 
     IsUtf8 text → (next : List ℕ → Spelling) (ws : List (List ℕ)) → judge (Name next) at w ws ≡ judge (next text) (at + k + n) after ws
 unfolding judge name_at
 name_taken w n k e at rest text after r h t a u next ws =
-    let fits : nat_le n (length (drop k w)) ≡ true = le_true n _ (subst (λ r. n ≤ length r) r h) in
+    let fits : nat_le n (length (drop k w)) ≡ true = le-leb n _ (subst (λ r. n ≤ length r) r h) in
     let good : is_utf8 (take n (drop k w)) ≡ true = is_utf8-from_IsUtf8 _ (subst IsUtf8 (t ∙ ap (take n) r) u) in
     let sum : at + (k + n) ≡ at + k + n = omega arith in
     rw (t, a, r, ← e, fits, good, sum, ← drop-drop) refl
@@ -78,7 +75,7 @@ name_past w n k e at rest r h next ws =
 pub name_wrong : (w : List ℕ) (n k : ℕ) → Some (n, k) ≡ number_at false 32 w → (at : ℕ) → (rest text : List ℕ) → rest ≡ drop k w → n ≤ length rest → text ≡ take n rest → (IsUtf8 text → ⊥) → (next : List ℕ → Spelling) (ws : List (List ℕ)) → judge (Name next) at w ws ≡ Refused at
 unfolding judge name_at
 name_wrong w n k e at rest text r h t u next ws =
-    let fits : nat_le n (length (drop k w)) ≡ true = le_true n _ (subst (λ r. n ≤ length r) r h) in
+    let fits : nat_le n (length (drop k w)) ≡ true = le-leb n _ (subst (λ r. n ≤ length r) r h) in
     let goal : (b : Bool) → is_utf8 (take n (drop k w)) ≡ b → judge (Name next) at w ws ≡ Refused at =
     λ b. elim b as (λ b. is_utf8 (take n (drop k w)) ≡ b → judge (Name next) at w ws ≡ Refused at) [
       | true ↦ λ good. absurd (u (subst IsUtf8 (sym (t ∙ ap (take n) r)) (IsUtf8-from_is_utf8 _ good)))

@@ -4,7 +4,7 @@ use Rattle.std.specs.Prelude.{slice_get}
 use Rattle.std.proofs.lemmas.Option.{same_Some}
 use Rattle.anf_convert.specs.declared.program.Atom.{Atom}
 use Rattle.anf_convert.specs.declared.program.Atom.TheVariants.{Var as AVar}
-use Rattle.closure_lift.specs.Lifted.{Op, OApp, Block, BranchBlocks, Fn, Program, Val, VBox, VCon, VClos, Vals, VNil, VCons, ◌+v◌, size, BranchAt, branch_here, branch_after, Is, is_var, is_box, is_empty, AllAre, are_none, are_more, Does, do_const, do_app, do_box_app, do_con, do_clos, do_case, Gets, gets_atom, gets_let_atom, gets_ret, gets_let, LiftedAnswers, answers_alone, answers_applied}
+use Rattle.closure_lift.specs.Lifted.{Op, AppOp, Block, BranchBlocks, Fn, Program, Val, VBox, VCon, VClos, Vals, VNil, VCons, ◌+v◌, size, BranchAt, branch_here, branch_after, Is, is_var, is_box, is_empty, AllAre, are_none, are_more, Does, do_const, do_app, do_box_app, do_con, do_clos, do_case, Gets, gets_atom, gets_let_atom, gets_ret, gets_let, LiftedAnswers, answers_alone, answers_applied}
 use Rattle.wasm_emit.specs.CallDepth.{with_call, op_depth, block_depth, call_depth, CallDepthsAreOne}
 
 one_atom : {e : Vals} {a : Atom} {v u : Val} → Is e a v → Is e a u → v ≡ u
@@ -73,7 +73,7 @@ module _ {P : Program} {w w' : ℕ} where
   one_main (answers_alone g) (answers_alone g') = one_block false g g'
   one_main {v = r} {u = u} (answers_applied h d) (answers_applied {a = a} {c = c'} {k = k'} {b = b'} {l = l'} h' d') =
       let x = one_main h h' in
-      let y = subst (λ z. (q : Does P w' (VCons a (VCons z VNil)) (OApp (AVar 1) (AVar 0)) u c' k' b' l') → (r ≡ u) × (op_depth false d ≡ op_depth false q)) x.0 (λ q. one_op false d q) d' in
+      let y = subst (λ z. (q : Does P w' (VCons a (VCons z VNil)) (AppOp (AVar 1) (AVar 0)) u c' k' b' l') → (r ≡ u) × (op_depth false d ≡ op_depth false q)) x.0 (λ q. one_op false d q) d' in
       (y.0, λ i. max (x.1 i) (y.1 i))
 
 pub call_depths_are_one : CallDepthsAreOne

@@ -2,9 +2,9 @@
 use Rattle.std.proofs.Common.{◌≡◌, ℕ, zero, suc, ◌+◌, ◌-◌, ◌<◌, ◌≤◌, List, [], ◌∷◌, ◌++◌, length, append-nil, reverse, drop, get_or, max, refl, ap, sym, ◌∙◌, arith}
 use Rattle.std.proofs.Math.ListN.{drop_of_length-le}
 use Rattle.std.proofs.lemmas.List.{get_or-reverse, length-reverse}
-use Rattle.std.specs.Prelude.{Result, Ok, Err, IfOk, OnOk}
+use Rattle.std.specs.Prelude.{Result, Ok, Err, IfOk}
 use Rattle.anf_convert.specs.declared.program.Atom.{Atom}
-use Rattle.closure_lift.specs.Lifted.{Op, OConst, OApp, OCon, OClos, OCase, Block, RetAtom, LetAtom, Ret, Let, BranchBlocks, BNil, BCons, BranchAt, branch_here, branch_after, Bound, AtomBound, OpBound, ret_of, lets_of}
+use Rattle.closure_lift.specs.Lifted.{Op, ConstOp, AppOp, ConOp, ClosOp, CaseOp, Block, TailAtom, BindAtom, Tail, Bind, BranchBlocks, NoBranch, Branch, BranchAt, branch_here, branch_after, Bound, AtomIs, OpIs, tail_of, block_of}
 use Rattle.closure_lift.specs.LiftedProgram.{renumber_op, renumber, renumber_branches}
 use Rattle.closure_lift.specs.LiftedView.{seen, bounds_of, branches_of}
 use Rattle.closure_lift.specs.declared.program.LiftedBranch.{LiftedBranch}
@@ -23,30 +23,30 @@ ends_step n k rest h = let e : n - k ≡ suc (n - (k + 1)) = omega arith in ap (
 
 mutual
   op_least : (d : ℕ) (x : Op) → d ≤ top_op d x
-  op_least d (OConst x) = omega arith
-  op_least d (OApp f a) = omega arith
-  op_least d (OCon c as') = omega arith
-  op_least d (OClos g as') = omega arith
-  op_least d (OCase a bs) = omega arith
+  op_least d (ConstOp x) = omega arith
+  op_least d (AppOp f a) = omega arith
+  op_least d (ConOp c as') = omega arith
+  op_least d (ClosOp g as') = omega arith
+  op_least d (CaseOp a bs) = omega arith
 
   -- a block needs no fewer locals than there are before it
   pub top_least : (d : ℕ) (t : Block) → d ≤ top d t
-  top_least d (RetAtom a) = omega arith
-  top_least d (LetAtom a t) = omega arith
-  top_least d (Ret x) = op_least d x
-  top_least d (Let x t) = omega arith
+  top_least d (TailAtom a) = omega arith
+  top_least d (BindAtom a t) = omega arith
+  top_least d (Tail x) = op_least d x
+  top_least d (Bind x t) = omega arith
 
 pub branches_least : (d : ℕ) (bs : BranchBlocks) → d ≤ top_branches d bs
-branches_least d BNil = omega arith
-branches_least d (BCons n t bs) = omega (arith, branches_least d bs)
+branches_least d NoBranch = omega arith
+branches_least d (Branch n t bs) = omega (arith, branches_least d bs)
 
-pub top_end : (d : ℕ) (x : Bound) → top d (ret_of x) ≡ bound_locals d x
-top_end d (AtomBound a) = refl
-top_end d (OpBound x) = refl
+pub top_end : (d : ℕ) (x : Bound) → top d (tail_of x) ≡ bound_locals d x
+top_end d (AtomIs a) = refl
+top_end d (OpIs x) = refl
 
 -- the locals at the end of a block
-pub end_locals : (items : List LiftedOp) (i at : ℕ) (t : LiftedOp) → length items ≤ i → top at (lets_of (bounds_of (drop i items)) (ret_of (seen t))) ≡ bound_locals at (seen t)
-end_locals items i at t le = ap (λ (os : List LiftedOp). top at (lets_of (bounds_of os) (ret_of (seen t)))) (drop_of_length-le items le) ∙ top_end at (seen t)
+pub end_locals : (items : List LiftedOp) (i at : ℕ) (t : LiftedOp) → length items ≤ i → top at (block_of (bounds_of (drop i items)) (tail_of (seen t))) ≡ bound_locals at (seen t)
+end_locals items i at t le = ap (λ (os : List LiftedOp). top at (block_of (bounds_of os) (tail_of (seen t)))) (drop_of_length-le items le) ∙ top_end at (seen t)
 
 -- the locals of a match
 pub case_locals : (r : Result ℕ EmitFault) (inner d most : ℕ) (items : List LiftedBranch) (o : LiftedOp) (a : Atom) (bs : BranchBlocks) → inner ≡ d + 1 → branches_of items ≡ bs → o ≡ lifted.Case a bs →
@@ -77,28 +77,24 @@ ends_sum (suc n) k rest =
     let e : suc (k + n) ≡ k + suc n = omega arith in
     ap (λ (z : List Instr). End ∷ z) (ends_sum n k rest) ∙ ap (λ (j : ℕ). ends j rest) e
 
-pub on_ok : {A E P Q : Type 0} (r : Result A E) → (P → Q) → OnOk r P → OnOk r Q
-on_ok (Ok x) f h = f h
-on_ok (Err e) f h = h
-
 -- numbers of constants take no locals
 mutual
   op_renumbered : (f : ℕ → ℕ) (d : ℕ) (x : Op) → top_op d (renumber_op f x) ≡ top_op d x
-  op_renumbered f d (OConst x) = refl
-  op_renumbered f d (OApp g a) = refl
-  op_renumbered f d (OCon c as') = refl
-  op_renumbered f d (OClos g as') = refl
-  op_renumbered f d (OCase a bs) = ap (λ (n : ℕ). max (suc d) n) (branches_renumbered f (suc d) bs)
+  op_renumbered f d (ConstOp x) = refl
+  op_renumbered f d (AppOp g a) = refl
+  op_renumbered f d (ConOp c as') = refl
+  op_renumbered f d (ClosOp g as') = refl
+  op_renumbered f d (CaseOp a bs) = ap (λ (n : ℕ). max (suc d) n) (branches_renumbered f (suc d) bs)
 
   pub top_renumbered : (f : ℕ → ℕ) (d : ℕ) (t : Block) → top d (renumber f t) ≡ top d t
-  top_renumbered f d (RetAtom a) = refl
-  top_renumbered f d (LetAtom a t) = ap (λ (n : ℕ). max (suc d) n) (top_renumbered f (suc d) t)
-  top_renumbered f d (Ret x) = op_renumbered f d x
-  top_renumbered f d (Let x t) = let a = op_renumbered f d x in let b = top_renumbered f (suc d) t in omega arith
+  top_renumbered f d (TailAtom a) = refl
+  top_renumbered f d (BindAtom a t) = ap (λ (n : ℕ). max (suc d) n) (top_renumbered f (suc d) t)
+  top_renumbered f d (Tail x) = op_renumbered f d x
+  top_renumbered f d (Bind x t) = let a = op_renumbered f d x in let b = top_renumbered f (suc d) t in omega arith
 
   branches_renumbered : (f : ℕ → ℕ) (d : ℕ) (bs : BranchBlocks) → top_branches d (renumber_branches f bs) ≡ top_branches d bs
-  branches_renumbered f d BNil = refl
-  branches_renumbered f d (BCons n t bs) = let a = top_renumbered f d t in let b = branches_renumbered f d bs in omega arith
+  branches_renumbered f d NoBranch = refl
+  branches_renumbered f d (Branch n t bs) = let a = top_renumbered f d t in let b = branches_renumbered f d bs in omega arith
 
 -- nothing else was pushed
 pub only_pushed : {g : List Instr → List Instr} (old new : List Instr) → old ≡ [] → Pushed old new g → new ≡ g []

@@ -5,7 +5,7 @@ use Rattle.anf_convert.specs.AnfForm.{fields, AnfFormed}
 use Rattle.closure_lift.specs.CapturedLimit.{ProgramCaptures}
 use Rattle.closure_lift.specs.Lift.{lift}
 use Rattle.closure_lift.specs.Lifted.{Program}
-use Rattle.closure_lift.specs.LiftedForm.{functions, Formed, Limits as IsWithin}
+use Rattle.closure_lift.specs.LiftedForm.{most_functions, Formed, Limits as IsWithin}
 use Rattle.wasm_core.specs.declared.exports.Export.{Export}
 use Rattle.wasm_core.specs.declared.exports.ExportKind.TheVariants as kind
 
@@ -19,7 +19,7 @@ pub record Emits (P : Program) : Type 0 where
 
 -- the lifted program of a program of the form meets that, where lifting doesn't refuse it
 abbrev pub LiftedCanBeEmitted : Type 0
-LiftedCanBeEmitted = (P : AnfProgram) (most m : ℕ) → AnfFormed P m → m ≤ 65536 → ProgramCaptures most P → most ≤ fields → length P.constants + length (lift P).functions ≤ functions → Emits (lift P)
+LiftedCanBeEmitted = (P : AnfProgram) (most m : ℕ) → AnfFormed P m → m ≤ 65536 → ProgramCaptures most P → most ≤ fields → length P.constants + length (lift P).functions ≤ most_functions → Emits (lift P)
 
 -- the exports, with the index of main
 abbrev pub exports_with : ℕ → List Export

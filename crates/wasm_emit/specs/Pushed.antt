@@ -1,6 +1,6 @@
 -- What the functions that push instructions have pushed: the instructions that the definitions put in front of any rest.
 use Rattle.std.specs.Prelude.{◌≡◌, ◌<◌, ◌⊎◌, ℕ, zero, suc, List, ◌∷◌, ◌++◌}
-use Rattle.closure_lift.specs.Lifted.{Fn, Bound, AtomBound, OpBound}
+use Rattle.closure_lift.specs.Lifted.{Fn, Bound, AtomIs, OpIs}
 use Rattle.closure_lift.specs.LiftedProgram.{renumber_op, renumber, place_in}
 use Rattle.closure_lift.specs.declared.program.Function.{Function}
 use Rattle.closure_lift.specs.declared.program.Lifted.{Lifted}
@@ -20,12 +20,12 @@ ends zero rest = rest
 ends (suc n) rest = End ∷ ends n rest
 
 abbrev pub bound_locals : ℕ → Bound → ℕ
-bound_locals d (AtomBound a) = d
-bound_locals d (OpBound x) = top_op d x
+bound_locals d (AtomIs a) = d
+bound_locals d (OpIs x) = top_op d x
 
 abbrev pub renumber_bound : (ℕ → ℕ) → Bound → Bound
-renumber_bound f (AtomBound a) = AtomBound a
-renumber_bound f (OpBound x) = OpBound (renumber_op f x)
+renumber_bound f (AtomIs a) = AtomIs a
+renumber_bound f (OpIs x) = OpIs (renumber_op f x)
 
 -- the function of a function in memory
 abbrev pub function_in : Lifted → Function → Fn

@@ -98,7 +98,7 @@ from_fit false m st st' s e = no e
 pub starts_again : (m : Parts) (st st' : Store) (s : State) → main_start_in m st ≡ Some s → main_start_in m st' ≡ Some (with_store s st')
 starts_again m st st' s e = from_fit (segments_fit m) m st st' s e
 
-store_again : (s : State) (st : Store) → store_of (with_store s st) ≡ st
+pub store_again : (s : State) (st : Store) → store_of (with_store s st) ≡ st
 store_again (At c) st = refl
 store_again (Over e old) st = refl
 

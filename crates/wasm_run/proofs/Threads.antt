@@ -1,6 +1,7 @@
 -- Steps of threads against steps of confs.
 use Rattle.std.proofs.Common.{◌≡◌, ℕ, zero, suc, ◌+◌, List, [], ◌∷◌, ◌++◌, map, drop, reverse, Option, Some, None, Bool, true, false, refl, ap, sym, ◌∙◌, add-one, take, ◌<◌, ◌≤◌, length, ⊎_elim}
 use Rattle.std.proofs.lemmas.Bool.{cases_lt}
+use Rattle.std.proofs.Math.Bool.{and-false}
 use Rattle.std.specs.Prelude.{slice_get, is_some, ◌&&◌, nat_le, if◌then◌else◌, IfSome}
 use Rattle.std.specs.Option.{option_map}
 use Rattle.std.proofs.lemmas.Option.{slice_get-map, same_Some}
@@ -82,15 +83,11 @@ read_within m g t code e h = step_within m g (conf_of m t) code t.current.at (ap
 pub read_step : (m : Parts) (g : Bool) (t : Thread) (i : Instr) → slice_get (code_of m t.current.func) t.current.at ≡ Some i → step m g (conf_of m t) ≡ acting m g i t
 read_step m g t i h = step_here m g (conf_of m t) i (rest_of m t) (drop_here (code_of m t.current.func) t.current.at i h)
 
-and_no : (b : Bool) → (b && false) ≡ false
-and_no true = refl
-and_no false = refl
-
 pub lengths_differ : (xs ys : List ValType) → (length xs ≡ length ys → ⊥) → same_types xs ys ≡ false
 lengths_differ [] [] h = absurd (h refl)
 lengths_differ [] (y ∷ ys) h = refl
 lengths_differ (x ∷ xs) [] h = refl
-lengths_differ (x ∷ xs) (y ∷ ys) h = ap (λ b. same_type x y && b) (lengths_differ xs ys (λ e. h (ap suc e))) ∙ and_no (same_type x y)
+lengths_differ (x ∷ xs) (y ∷ ys) h = ap (λ b. same_type x y && b) (lengths_differ xs ys (λ e. h (ap suc e))) ∙ and-false (same_type x y)
 
 module _ (m : Parts) (f : ℕ) (g : Func) (is : func_of m f ≡ Some g) (of : FuncType) (others : List ValType) (ht : Some g.type ≡ Some of) (hl : Some g.body.locals ≡ Some others) (vals : List ConstValue) where
   -- a called function's frame as it begins, where its type and its further locals were read

@@ -6,12 +6,13 @@ use Rattle.std.specs.Ordering.{nat_cmp, is_eq}
 use Rattle.std.specs.Cmp.Lexicographic.{slice_cmp}
 use Rattle.std.specs.Str.{bytes_eq}
 use Rattle.std.specs.BTreeSet.{BTreeSet, contains}
+use Rattle.std.proofs.lemmas.Bool.{false≢true}
 use Rattle.std.proofs.lemmas.Map.Text.{is_eq-slice_cmp}
 use Rattle.std.proofs.lemmas.Slice.Eq.{bytes_eq-Decides}
 use Rattle.std.proofs.lemmas.Option.{slice_get_within}
 use Rattle.wasm_core.specs.declared.exports.Export.{Export}
 use Rattle.wasm_core.specs.ModuleTyping.{DistinctNames}
-use Rattle.wasm_validate.proofs.Reading.{before_next, false_is_true}
+use Rattle.wasm_validate.proofs.Reading.{before_next}
 
 -- texts by their bytes
 abbrev pub text_order : Bor (List ℕ) → Bor (List ℕ) → Ordering
@@ -33,7 +34,7 @@ by_text {A = A} xs ys if_same if_other = on (bytes_eq xs ys) refl
   where
     on : (b : Bool) → bytes_eq xs ys ≡ b → A
     on true e = if_same ((bytes_eq-Decides xs ys).0 e) (is_eq-slice_cmp xs ys ∙ e)
-    on false e = if_other (λ s. false_is_true (sym e ∙ (bytes_eq-Decides xs ys).1 s)) (is_eq-slice_cmp xs ys ∙ e)
+    on false e = if_other (λ s. false≢true (sym e ∙ (bytes_eq-Decides xs ys).1 s)) (is_eq-slice_cmp xs ys ∙ e)
 
 pub listed_more : (es : List Export) (n : ℕ) (s t : BTreeSet (Bor (List ℕ))) (e : Export) (k : Bor (List ℕ)) → Listed es n s → slice_get es n ≡ Some e → k.now ≡ e.name → contains text_order s k ≡ false → ((q : Bor (List ℕ)) → contains text_order t q ≡ cond
     (is_eq (text_order k q)) true (contains text_order s q)) → Listed es (n + 1) t
@@ -56,7 +57,7 @@ listed_more es n s t e k l he hk new put = record { only = only_next; every = ev
     distinct_next : (i j : ℕ) (f g : Export) → i < j → j < n + 1 → slice_get es i ≡ Some f → slice_get es j ≡ Some g → f.name ≢ g.name
     distinct_next i j f g ij jl hf hg same =
         before_next (λ h (x : Export). (d : ℕ) (y : Export) → d < h → slice_get es d ≡ Some y → y.name ≢ x.name) es n e (λ h x lt hx d y dh hy. l.distinct d h y x dh lt hy hx) he
-        (λ d y lt hy m. false_is_true (sym new ∙ l.every k d y lt hy (m ∙ sym hk))) j g jl hg i f ij hf same
+        (λ d y lt hy m. false≢true (sym new ∙ l.every k d y lt hy (m ∙ sym hk))) j g jl hg i f ij hf same
 
 -- a name that is there already
 pub listed_twice : (es : List Export) (n : ℕ) (s : BTreeSet (Bor (List ℕ))) (e : Export) (k : Bor (List ℕ)) → Listed es n s → slice_get es n ≡ Some e → k.now ≡ e.name → contains text_order s k ≡ true → DistinctNames es → ⊥

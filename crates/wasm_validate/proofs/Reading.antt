@@ -1,11 +1,8 @@
 -- What holds of each item of a list, by the place of the item.
-use Rattle.std.proofs.Common.{◌≡◌, ℕ, ◌+◌, ◌<◌, ◌≤◌, List, false, true, Some, refl, ap, sym, ◌∙◌, subst, length, get_or, arith, ⊎_elim}
+use Rattle.std.proofs.Common.{◌≡◌, ℕ, ◌+◌, ◌<◌, ◌≤◌, List, Some, refl, ap, sym, ◌∙◌, subst, length, get_or, arith, ⊎_elim}
 use Rattle.std.specs.Prelude.{slice_get}
 use Rattle.std.proofs.lemmas.Option.{slice_get_read, slice_get_within, same_Some}
 use Rattle.std.proofs.lemmas.Bool.{cases_lt}
-
-pub false_is_true : {A : Type 0} → false ≡ true → A
-false_is_true e = cc
 
 -- of each item before a place
 abbrev pub Before : {X : Type 0} → (ℕ → X → Type 0) → List X → ℕ → Type 0

@@ -1,9 +1,9 @@
 -- The parts outside the bodies, in the order of their sections.
 use Rattle.std.proofs.Common.{ℕ, ◌<◌, ◌≤◌, true, false, refl, arith}
 use Rattle.std.specs.Prelude.{IsTrue, ◌↔◌}
+use Rattle.std.proofs.lemmas.Bool.{false≢true}
 use Rattle.wasm_core.specs.Parts.{Parts}
 use Rattle.wasm_core.specs.ModuleTyping.{Part, Functions, Tables, Memories, Globals, Exported, Elements, Codes, id_of, IsSound}
-use Rattle.wasm_validate.proofs.Reading.{false_is_true}
 
 -- no part stands there
 pub too_late : {A : Type 0} (k n : ℕ) → n ≤ k → k < n → A
@@ -21,7 +21,7 @@ sound_before m n f t y g x e c Codes lt = c lt
 
 -- a test that failed
 pub failed : {P : Type 0} → (IsTrue false ↔ P) → P → ⊥
-failed h p = false_is_true (h.1 p)
+failed h p = false≢true (h.1 p)
 
 -- and one that didn't
 pub passed : {P : Type 0} → (IsTrue true ↔ P) → P

@@ -1,6 +1,6 @@
 //! Types of constructors.
 ghost use Rattle.std.specs.Prelude.{◌≡◌, ◌++◌, ◌≤◌, IfOk, IfErr, IsTrue, map};
-ghost use Rattle.trees.specs.Measures.{IsBeyond};
+ghost use Rattle.trees.specs.Measures.{depth_limit, IsBeyond};
 ghost use Rattle.pc_terms.specs.Syntax.{Ind, shift, apply, variables};
 ghost use Rattle.calculus_rules.specs.declared.declaration.Family.{Family};
 ghost use Rattle.calculus_rules.specs.Environment.{with_parameters};
@@ -24,8 +24,8 @@ fn built_type(
     args: u32,
     result_indices: &Terms,
 ) -> Result<Term, MakeFault>
-    requires params_fit { params ≤ 2048 }
-    requires args_fit { args ≤ 2048 }
+    requires params_fit { params ≤ depth_limit }
+    requires args_fit { args ≤ depth_limit }
     ensures ok { IfOk result (λ t. t ≡ apply (Ind id) (map (shift args 0) (variables params) ++ result_indices.now)) }
     ensures too_deep { IfErr result (λ e. e ≡ TooDeep → IsBeyond (apply (Ind id) (map (shift args 0) (variables params) ++ result_indices.now))) }
 {

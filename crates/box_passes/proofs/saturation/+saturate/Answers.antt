@@ -1,6 +1,6 @@
 use Rattle.std.proofs.Common.{rules, arith, ◌≡◌, ◌<◌, ◌≤◌, ◌+◌, length, refl, sym, ap, ◌∙◌, subst, IfOk, IfErr}
 use Rattle.std.proofs.lemmas.Result.{err_from_is_err_and}
-use Rattle.trees.specs.Measures.{depth, depth_trees}
+use Rattle.trees.specs.Measures.{depth, depth_trees, depth_limit}
 use Rattle.box_terms.specs.BoxSyntax.{BCase, BFix}
 use Rattle.box_terms.specs.BoxLists.{arms_of, bodies_of, rargs_of}
 use Rattle.box_terms.specs.BoxView.{box_of}
@@ -16,7 +16,7 @@ saturated-returns-in_err-branches-in-Case-clause-too_deep t c =
     let e : box_of c.view.result.now ≡ BCase c.in-Case.f c.in-Case.s (arms_of c.in-Case.bs) = ap box_of c.in-Case.is in
     let at_t = sym e ∙ c.view.ensures.is in
     let p = err_from_is_err_and c.from_residual-in_err-branches-in-Case.result c.from_residual-in_err-branches-in-Case.ensures.1 in
-    rw (p.1, p.2) (λ q. subst (λ t. 2048 < depth (head c.args.fs.now t c.args.n)) at_t (branches_deep c.args.fs.now c.args.n c.in-Case.f c.in-Case.s c.in-Case.bs (c.in_err-branches-in-Case.ensures.too_deep q)))
+    rw (p.1, p.2) (λ q. subst (λ t. depth_limit < depth (head c.args.fs.now t c.args.n)) at_t (branches_deep c.args.fs.now c.args.n c.in-Case.f c.in-Case.s c.in-Case.bs (c.in_err-branches-in-Case.ensures.too_deep q)))
 
 pub saturated-returns-then-share_branches-clause-ok : goal.saturated-returns-then-share_branches-clause-ok
 saturated-returns-then-share_branches-clause-ok t c =
@@ -39,7 +39,7 @@ saturated-returns-in_err-defs-in-Fix-clause-too_deep t c =
     let e : box_of c.view.result.now ≡ BFix c.in-Fix.i (rargs_of c.in-Fix.ds) (bodies_of (length c.in-Fix.ds) c.in-Fix.ds) = ap box_of c.in-Fix.is in
     let at_t = sym e ∙ c.view.ensures.is in
     let p = err_from_is_err_and c.from_residual-in_err-defs-in-Fix.result c.from_residual-in_err-defs-in-Fix.ensures.1 in
-    rw (p.1, p.2) (λ q. subst (λ t. 2048 < depth (head c.args.fs.now t c.args.n)) at_t (defs_deep c.args.fs.now c.args.n c.in-Fix.ds c.in-Fix.i (c.in_err-defs-in-Fix.ensures.too_deep q)))
+    rw (p.1, p.2) (λ q. subst (λ t. depth_limit < depth (head c.args.fs.now t c.args.n)) at_t (defs_deep c.args.fs.now c.args.n c.in-Fix.ds c.in-Fix.i (c.in_err-defs-in-Fix.ensures.too_deep q)))
 
 pub saturated-returns-then-share_defs-clause-ok : goal.saturated-returns-then-share_defs-clause-ok
 saturated-returns-then-share_defs-clause-ok t c =
@@ -72,7 +72,7 @@ saturated-returns-else-shares_node-6-clause-too_deep t c =
     let s : c.in_ok-scrut-in-Case.field-0.term ≡ head c.args.fs.now c.in-Case.s 0 = search rules in
     let whole : BCase c.in-Case.f c.in_ok-scrut-in-Case.field-0.term (arms_of c.in_ok-branches-in-Case.branches) ≡ head c.args.fs.now c.args.t.now c.args.n =
     case_heads c.args.fs.now c.args.n c.in-Case.f c.in-Case.s c.in_ok-scrut-in-Case.field-0.term c.in-Case.bs c.in_ok-branches-in-Case.branches s c.in_ok-branches-in-Case.ensures.ok ∙ ap (λ t. head c.args.fs.now t c.args.n) at_t in
-    subst (λ u. IfErr c.head_of-in-Case.result (λ e. e ≡ TooDeep → 2048 < depth u)) whole c.head_of-in-Case.ensures.too_deep
+    subst (λ u. IfErr c.head_of-in-Case.result (λ e. e ≡ TooDeep → depth_limit < depth u)) whole c.head_of-in-Case.ensures.too_deep
 
 pub saturated-returns-else-share_defs-clause-ok : goal.saturated-returns-else-share_defs-clause-ok
 saturated-returns-else-share_defs-clause-ok t c =
@@ -90,13 +90,13 @@ saturated-returns-else-share_defs-clause-too_deep t c =
     let at_t = sym e ∙ c.view.ensures.is in
     let whole : BFix c.in-Fix.i (rargs_of c.in_ok-defs-in-Fix.defs) (bodies_of (length c.in_ok-defs-in-Fix.defs) c.in_ok-defs-in-Fix.defs) ≡ head c.args.fs.now c.args.t.now c.args.n =
     fix_heads c.args.fs.now c.args.n c.in-Fix.ds c.in_ok-defs-in-Fix.defs c.in-Fix.i c.in_ok-defs-in-Fix.ensures.ok ∙ ap (λ t. head c.args.fs.now t c.args.n) at_t in
-    subst (λ u. IfErr c.head_of-in-Fix.result (λ e. e ≡ TooDeep → 2048 < depth u)) whole c.head_of-in-Fix.ensures.too_deep
+    subst (λ u. IfErr c.head_of-in-Fix.result (λ e. e ≡ TooDeep → depth_limit < depth u)) whole c.head_of-in-Fix.ensures.too_deep
 
 pub saturated_branches-saturated-requires : goal.saturated_branches-saturated-requires
 saturated_branches-saturated-requires t c =
     let l : c.loop-i.i < length c.as_slice-xs.result.now = grind arith in
     let d = subst (λ xs. depth c.index-xs-i.result.body ≤ depth_trees (arms_of xs)) c.as_slice-xs.ensures.is (arm_is_less c.as_slice-xs.result.now c.loop-i.i c.index-xs-i.result l c.index-xs-i.is) in
-    let room : 0 + depth c.index-xs-i.result.body ≤ 2048 = omega (arith, d, c.requires.room) in
+    let room : 0 + depth c.index-xs-i.result.body ≤ depth_limit = omega (arith, d, c.requires.room) in
     search (rules, d, room)
 
 pub saturated_branches-returns-in_err-body-clause-too_deep : goal.saturated_branches-returns-in_err-body-clause-too_deep
@@ -110,7 +110,7 @@ saturated_defs-saturated-requires t c =
     let l : c.loop-i.i < length c.as_slice-xs.result.now = grind arith in
     let d = subst (λ ds. depth c.index-xs-i.result.body ≤ depth_trees (bodies_of (length c.args.ds.now) ds)) c.as_slice-xs.ensures.is
     (body_is_less (length c.args.ds.now) c.as_slice-xs.result.now c.loop-i.i c.index-xs-i.result l c.index-xs-i.is) in
-    let room : 0 + depth c.index-xs-i.result.body ≤ 2048 = omega (arith, d, c.requires.room) in
+    let room : 0 + depth c.index-xs-i.result.body ≤ depth_limit = omega (arith, d, c.requires.room) in
     search (rules, d, room)
 
 pub saturated_defs-returns-in_err-body-clause-too_deep : goal.saturated_defs-returns-in_err-body-clause-too_deep

@@ -7,7 +7,8 @@ use Rattle.anf_convert.specs.AnfView.{seen as seen_anf, bindings_of, branches_of
 use Rattle.anf_convert.specs.AnfWeight.{binding_weight, block_weight, branches_weight, defs_weight}
 use Rattle.anf_convert.specs.Captured.{Plain, plains, lam_captured, fix_captured}
 use Rattle.closure_lift.specs.Lift.{held, lift_block, lift_branches, functions_block}
-use Rattle.closure_lift.specs.Lifted.{OClos, OpBound, lets_of, ret_of}
+use Rattle.closure_lift.specs.Lifted.{ClosOp, OpIs}
+use Rattle.closure_lift.specs.Lifted as lifted
 use Rattle.closure_lift.specs.LiftedView.{seen, bounds_of, functions_of}
 use Rattle.closure_lift.specs.FreeVariables.{size, notes_defs}
 use Rattle.closure_lift.specs.Lifting.{Stand, PlacesFor, function_with, definitions, blanks, most_words}
@@ -15,7 +16,7 @@ use Rattle.closure_lift.specs.CapturedLimit.{BlockCaptures, BranchesCapture, Def
 use Rattle.closure_lift.proofs.Going.{block_ends, frame_left, variables_left, defs_start, functions_more}
 use Rattle.closure_lift.proofs.Lighter.{op_lighter, tail_lighter, arm_lighter, def_weight, def_lighter}
 use Rattle.closure_lift.proofs.Steps.{captures_back}
-use Rattle.closure_lift.proofs.Walking.{refused_by, always, lam_words, lam_stand, lam_functions, fix_stand, fix_places, fix_functions, fix_scope, fix_left, plains_left}
+use Rattle.closure_lift.proofs.Walking.{refused_by, lam_words, lam_stand, lam_functions, fix_stand, fix_places, fix_functions, fix_scope, fix_left, plains_left}
 use Rattle.closure_lift.proofs.Written.{op_stands, arm_stands, inside_stands, def_stands, op_captures, arm_captures, def_captures, goes_on, goes_last, last_stands, arms_on, arms_end, defs_on, def_room, defs_last}
 use Rattle.closure_lift.proofs.lift.+lift.Goals as goal
 
@@ -47,7 +48,8 @@ lift_lambda-returns-clause-captures t c =
     let g : c.len-at.result ≡ length fs0 = search rules in
     let ew : c.in_ok-words.words ≡ lam_captured v.0 c.args.body.now =
     c.in_ok-words.ensures.is ∙ lam_words c.args.notes.now v.0 v.1 c.args.body.now fs0 c.requires.notes c.len-at.result g in
-    always c.closure_of.result (subst (λ ws. length ws < most_words) ew c.in_ok-words.ensures.few, c.in_ok-lifted.ensures.captures)
+    let told = (subst (λ ws. length ws < most_words) ew c.in_ok-words.ensures.few, c.in_ok-lifted.ensures.captures) in
+    IfOk-weaker c.closure_of.result _ _ (λ _ _. told) c.closure_of.ensures.is
 
 pub lift_lambda-returns-clause-functions : goal.lift_lambda-returns-clause-functions
 lift_lambda-returns-clause-functions t c =
@@ -58,9 +60,8 @@ lift_lambda-returns-clause-functions t c =
     let t1 = c.in_ok-lifted.lifted in
     let g : c.len-at.result ≡ length fs0 = search rules in
     let ew : ws ≡ lam_captured v.0 c.args.body.now = c.in_ok-words.ensures.is ∙ lam_words c.args.notes.now v.0 v.1 c.args.body.now fs0 c.requires.notes c.len-at.result g in
-    always c.closure_of.result
-    (lam_functions c.args.notes.now v.0 v.1 c.args.body.now fs0 c.requires.notes c.reserve.new.functions.items c.in_ok-reserve.ensures.functions fs2 c.put.new.functions.items ws t1 c.in_ok-lifted.ensures.functions
-    (c.in_ok-put.ensures.put ∙ ap (λ k. slice_set (functions_of fs2) k (function_with ws t1)) g) c.in_ok-lifted.ensures.body ew)
+    let told = (lam_functions c.args.notes.now v.0 v.1 c.args.body.now fs0 c.requires.notes c.reserve.new.functions.items c.in_ok-reserve.ensures.functions fs2 c.put.new.functions.items ws t1 c.in_ok-lifted.ensures.functions (c.in_ok-put.ensures.put ∙ ap (λ k. slice_set (functions_of fs2) k (function_with ws t1)) g) c.in_ok-lifted.ensures.body ew) in
+    IfOk-weaker c.closure_of.result _ _ (λ _ _. told) c.closure_of.ensures.is
 
 pub lift_lambda-returns-clause-op : goal.lift_lambda-returns-clause-op
 lift_lambda-returns-clause-op t c =
@@ -71,8 +72,8 @@ lift_lambda-returns-clause-op t c =
     let g : c.len-at.result ≡ length fs0 = search rules in
     let g0 : c.len-at.result + 0 ≡ length fs0 = omega arith in
     let ew : ws ≡ lam_captured v.0 c.args.body.now = c.in_ok-words.ensures.is ∙ lam_words c.args.notes.now v.0 v.1 c.args.body.now fs0 c.requires.notes c.len-at.result g in
-    IfOk-weaker c.closure_of.result (λ o. seen o ≡ OpBound (OClos (c.len-at.result + 0) (map (held fr) ws))) (λ o. seen o ≡ OpBound (OClos (length fs0) (map (held fr) (lam_captured v.0 c.args.body.now))))
-    (λ o p. p ∙ ap (λ k. OpBound (OClos k (map (held fr) ws))) g0 ∙ ap (λ ws. OpBound (OClos (length fs0) (map (held fr) ws))) ew) c.closure_of.ensures.is
+    IfOk-weaker c.closure_of.result (λ o. seen o ≡ OpIs (ClosOp (c.len-at.result + 0) (map (held fr) ws))) (λ o. seen o ≡ OpIs (ClosOp (length fs0) (map (held fr) (lam_captured v.0 c.args.body.now))))
+    (λ o p. p ∙ ap (λ k. OpIs (ClosOp k (map (held fr) ws))) g0 ∙ ap (λ ws. OpIs (ClosOp (length fs0) (map (held fr) ws))) ew) c.closure_of.ensures.is
 
 pub lift_lambda-returns-in_err-words-clause-refused : goal.lift_lambda-returns-in_err-words-clause-refused
 lift_lambda-returns-in_err-words-clause-refused t c =
@@ -112,8 +113,8 @@ lift_fix-returns-clause-functions t c =
     let scope = fix_scope v.0 v.1 ds c.len-at.result c.in_ok-number_of.field-0 c.in_ok-words.words.value c.in_ok-push_fixes.ensures.ok ew ec in
     let e1 : functions_of fs1 ≡ functions_of fs0 ++ blanks (def_count ds) = c.in_ok-reserve.ensures.functions ∙ ap (λ n. functions_of fs0 ++ blanks n) c.len-count.ensures.is in
     let wv : c.deref.result.now ≡ c.in_ok-words.words.value = search rules in
-    always c.closure_of.result
-    (fix_functions c.args.notes.now v.0 v.1 ds fs0 c.requires.notes fs1 e1 c.lift_defs.new.functions.items c.push_fixes.new.variables c.deref.result.now c.len-at.result scope (wv ∙ ew) g c.in_ok-lift_defs.ensures.functions)
+    let told = (fix_functions c.args.notes.now v.0 v.1 ds fs0 c.requires.notes fs1 e1 c.lift_defs.new.functions.items c.push_fixes.new.variables c.deref.result.now c.len-at.result scope (wv ∙ ew) g c.in_ok-lift_defs.ensures.functions) in
+    IfOk-weaker c.closure_of.result _ _ (λ _ _. told) c.closure_of.ensures.is
 
 pub lift_fix-returns-clause-variables : goal.lift_fix-returns-clause-variables
 lift_fix-returns-clause-variables t c =
@@ -122,8 +123,8 @@ lift_fix-returns-clause-variables t c =
     let ew : c.in_ok-words.words.value ≡ fix_captured v.0 ds = c.in_ok-words.ensures.is ∙ c.in_ok-fix_words.ensures.is in
     let ec : c.in_ok-number_of.field-0 ≡ def_count ds = c.in_ok-number_of.ensures.is ∙ c.len-count.ensures.is in
     let scope = fix_scope v.0 v.1 ds c.len-at.result c.in_ok-number_of.field-0 c.in_ok-words.words.value c.in_ok-push_fixes.ensures.ok ew ec in
-    always c.closure_of.result
-    (variables_left (def_count ds) c.len-count.result c.len-count.ensures.is c.in_ok-lift_defs.ensures.variables c.forget.ensures.is (fix_left (fix_captured v.0 ds) v.0 v.1 c.len-at.result (def_count ds) scope))
+    let told = (variables_left (def_count ds) c.len-count.result c.len-count.ensures.is c.in_ok-lift_defs.ensures.variables c.forget.ensures.is (fix_left (fix_captured v.0 ds) v.0 v.1 c.len-at.result (def_count ds) scope)) in
+    IfOk-weaker c.closure_of.result _ _ (λ _ _. told) c.closure_of.ensures.is
 
 -- ---- a block
 pub lift_block_in-lift_op-requires : goal.lift_block_in-lift_op-requires
@@ -170,7 +171,7 @@ lift_block_in-returns-clause-block t c =
     let end = block_ends c.args.notes.now v c.args.frame.now c.args.functions.now.items all c.loop-i.i c.loop-i.variables c.loop-i.frame c.loop-i.functions.items (bounds_of c.loop-i.code.items) (seen_anf tl) last c.lift_op-2.new.frame
     (bounds_of c.lift_op-2.new.code.items) (seen c.in_ok-tail.tail) c.lift_op-2.new.functions.items e.op e.frame e.code e.functions e.captures in
     let same : all ≡ c.args.block.now = ap (λ ps. block_of ps (tail_of (seen_anf tl))) c.as_slice-ops.ensures.is ∙ c.block.view_is in
-    ap (λ z. lets_of z (ret_of (seen c.in_ok-tail.tail))) c.of.ensures.is ∙ end.block ∙ ap (lift_block v.0 v.1 c.args.frame.now (length c.args.functions.now.items)) same
+    ap (λ z. lifted.block_of z (lifted.tail_of (seen c.in_ok-tail.tail))) c.of.ensures.is ∙ end.block ∙ ap (lift_block v.0 v.1 c.args.frame.now (length c.args.functions.now.items)) same
 
 pub lift_block_in-returns-clause-frame : goal.lift_block_in-returns-clause-frame
 lift_block_in-returns-clause-frame t c =

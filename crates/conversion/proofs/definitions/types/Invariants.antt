@@ -1,6 +1,6 @@
 use Rattle.std.proofs.Common.{◌≡◌, take}
 use Rattle.pc_terms.specs.Lists.{types_of}
-use Rattle.calculus_rules.specs.Listed.{list_of}
+use Rattle.pc_terms.specs.Syntax.{list_of}
 use Rattle.conversion.proofs.definitions.types.Given as goal
 
 abbrev pub invariant-loop-i : goal.invariant-loop-i

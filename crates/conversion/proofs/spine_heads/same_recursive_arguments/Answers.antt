@@ -1,6 +1,7 @@
 use Rattle.std.proofs.Common.{◌∙◌, ◌<◌, length, sym, arith}
-use Rattle.conversion.proofs.Listing.{rargs_same, rargs_other}
+use Rattle.conversion.proofs.Listing.{rargs_same}
 use Rattle.conversion.proofs.spine_heads.same_recursive_arguments.Goals as goal
+use Rattle.pc_rules.proofs.SameTrees.{rargs_other}
 
 pub returns-then-ds-es : goal.returns-then-ds-es
 returns-then-ds-es c = record { is = sym (rargs_other c.args.ds.now c.args.es.now c.if-ds-es.true) }

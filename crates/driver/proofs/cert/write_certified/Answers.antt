@@ -2,9 +2,9 @@ use Rattle.std.proofs.Common.{[], ◌∷◌, ◌++◌}
 use Rattle.std.proofs.lemmas.Result.{on_ok_weaker}
 use Rattle.cert_text.specs.CertText.{AreSmall, cert_text}
 use Rattle.dump_printer.specs.Canonical.{canonical_text}
-use Rattle.driver.proofs.PartByPart.{appends_both}
 use Rattle.driver.proofs.cert.write_certified.Goals as goal
 use Rattle.module_run.proofs.CallEnding.{told_anyway}
+use Rattle.dump_printer.proofs.Written.{appends_both}
 
 pub returns : goal.returns
 returns g c =

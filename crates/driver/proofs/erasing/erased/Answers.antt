@@ -2,6 +2,7 @@ use Rattle.std.proofs.Common.{Ok, Err, None, [], ◌-◌, sym, subst}
 use Rattle.pc_rules.specs.Entailment.{test_of}
 use Rattle.calculus_rules.specs.Typing.{Types, guarded}
 use Rattle.pc_rules.specs.DirectedTyping.{infer}
+use Rattle.pc_rules.specs.DirectedRun.{most_nested}
 use Rattle.erase_rules.specs.DirectedProgram.{erased_program}
 use Rattle.erase.specs.AtPlaces.{FollowsAt, answered}
 use Rattle.erase.specs.HaltPlaces.{HaltsAtPlace}
@@ -28,7 +29,7 @@ pub halted-requires-clause-within : goal.halted-requires-clause-within
 halted-requires-clause-within c =
     let a = c.args.accepted.now in
     let m = c.args.m.now in
-    let inf = infer a.env (test_of a.env) (2048 - m.nest) in
+    let inf = infer a.env (test_of a.env) (most_nested - m.nest) in
     let at = subst (λ x. HaltsAtPlace a.env inf a.main m.account x c.erase_at_sites.new.m.account) c.in-Err-Halt.field-0-is c.in-Err-Halt.ensures.halted in
     λ b i is place. halt_within c.args.raw.now a.env a.main_type inf a.main m.account c.erase_at_sites.new.m.account c.in-Err-Halt.place c.in-Err-Halt.halt b i c.requires.checked at is place
 
@@ -36,7 +37,7 @@ pub returns-in-Err-Halt-clause-says : goal.returns-in-Err-Halt-clause-says
 returns-in-Err-Halt-clause-says c =
     let a = c.args.accepted.now in
     let m = c.args.m.now in
-    let f = subst (λ x. FollowsAt (erased_program a.env (test_of a.env) (2048 - m.nest) a.main m.account) (answered (Err x)) m c.erase_at_sites.new.m) c.in-Err-Halt.field-0-is c.in-Err-Halt.ensures.follows in
+    let f = subst (λ x. FollowsAt (erased_program a.env (test_of a.env) (most_nested - m.nest) a.main m.account) (answered (Err x)) m c.erase_at_sites.new.m) c.in-Err-Halt.field-0-is c.in-Err-Halt.ensures.follows in
     halt_says c.args.raw.now a.env a.main m.account c.erase_at_sites.new.m.account c.in-Err-Halt.place c.in-Err-Halt.halt c.halted.result c.halted.ensures.says
     (as_of_job a.env a.main m.nest m.account c.erase_at_sites.new.m.account (Err (Halt c.in-Err-Halt.place c.in-Err-Halt.halt)) c.requires.nest f.answer)
 

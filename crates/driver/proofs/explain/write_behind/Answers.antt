@@ -1,7 +1,7 @@
 use Rattle.std.proofs.lemmas.Result.{on_ok_weaker}
 use Rattle.driver.specs.Lines.{line_of}
-use Rattle.driver.proofs.PartByPart.{appends_both}
 use Rattle.driver.proofs.explain.write_behind.Goals as goal
+use Rattle.dump_printer.proofs.Written.{appends_both}
 
 pub returns : goal.returns
 returns g c = record {

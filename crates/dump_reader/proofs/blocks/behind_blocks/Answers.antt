@@ -1,14 +1,10 @@
-use Rattle.std.proofs.Common.{◌≡◌, ◌≤◌, ◌+◌, ◌-◌, get_or, Bool, true, false, refl, arith}
-use Rattle.std.specs.Prelude.{not}
+use Rattle.std.proofs.Common.{◌≡◌, ◌≤◌, ◌+◌, ◌-◌, get_or, true, false, refl, arith}
+use Rattle.std.proofs.lemmas.Bool.{not-false}
 use Rattle.sexp_reader.specs.Lex.{is_atom_byte}
 use Rattle.dump_reader.specs.CountedUpTo.{ends_from}
 use Rattle.dump_reader.proofs.Passing.{counted_anew, settled_behind, passes_is, block_counted}
 use Rattle.dump_reader.proofs.blocks.behind_blocks.Goals as goal
 use Rattle.dump_reader.proofs.blocks.behind_blocks.Goals.{then-opens-closes-gt0, else-opens-closes-gt0}
-
-plain_true : (b : Bool) → not b ≡ false → b ≡ true
-plain_true true h = refl
-plain_true false h = absurd (let f : true ≡ false = h in cc)
 
 pub loop-at-init : goal.loop-at-init
 loop-at-init c =
@@ -32,7 +28,7 @@ loop-at-preserved c =
     let look = c.look-block.result in
     let o = c.from-opens.result in
     let k = c.from-closes.result in
-    let passes = passes_is bytes c.loop-at.at 32 look.opens look.closes o k c.from-opens.ensures c.from-closes.ensures (c.look-block.ensures.passes (plain_true look.plain c.if-not-block.false)) in
+    let passes = passes_is bytes c.loop-at.at 32 look.opens look.closes o k c.from-opens.ensures c.from-closes.ensures (c.look-block.ensures.passes (not-false look.plain c.if-not-block.false)) in
     let counted = block_counted bytes ends c.loop-at.nesting c.loop-at.at c.loop-at.size o k passes c.if-nesting-closes.false c.if-nesting-opens-gt-MAX_NESTING.false (omega arith) inv.counted in
     elim c.if-opens-closes-gt0.branch [
       | then-opens-closes-gt0 w ↦ record {
@@ -66,7 +62,7 @@ loop-at-preserved-then-bytes-at-eq32 c =
     let k = c.from-closes.result in
     let n = c.loop-at.nesting + o - k in
     let at = c.loop-at.at + 32 in
-    let passes = passes_is bytes c.loop-at.at 32 look.opens look.closes o k c.from-opens.ensures c.from-closes.ensures (c.look-block.ensures.passes (plain_true look.plain c.if-not-block.false)) in
+    let passes = passes_is bytes c.loop-at.at 32 look.opens look.closes o k c.from-opens.ensures c.from-closes.ensures (c.look-block.ensures.passes (not-false look.plain c.if-not-block.false)) in
     let counted = block_counted bytes ends c.loop-at.nesting c.loop-at.at c.loop-at.size o k passes c.if-nesting-closes.false c.if-nesting-opens-gt-MAX_NESTING.false (omega arith) inv.counted in
     let space : is_atom_byte (get_or bytes (at - 1) 0) ≡ false = rw c.if-bytes-at-eq32.true refl in
     let same = settled_behind bytes ends n at (c.loop-at.size + 32) space counted.0 in

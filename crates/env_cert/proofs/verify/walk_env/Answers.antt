@@ -1,5 +1,6 @@
 use Rattle.std.proofs.Common.{rules, ◌≡◌, ◌-◌, arith, subst, sym, refl}
 use Rattle.calculus_rules.specs.Accepted.{IsAccepted}
+use Rattle.pc_rules.specs.DirectedRun.{most_nested}
 use Rattle.env_cert.proofs.Declaring.{accepted_ready}
 use Rattle.env_check.proofs.Whole.{bare_accepted}
 use Rattle.env_cert.proofs.Whole.{declarations_along, main_along, main_well_formed, along_halted}
@@ -14,7 +15,7 @@ declarations-requires-clause-accepted g c = subst (λ E. IsAccepted E) (sym c.in
 
 pub returns-in_err-env-clause-walks : goal.returns-in_err-env-clause-walks
 returns-in_err-env-clause-walks g c =
-    let room : c.room-room.result ≡ 2048 - c.args.trail.now.meter.nest = (let e = c.room-room.ensures in omega arith) in
+    let room : c.room-room.result ≡ most_nested - c.args.trail.now.meter.nest = (let e = c.room-room.ensures in omega arith) in
     along_halted c.args.raw.now c.args.cert.now c.args.trail.now c.declarations.new.trail c.from_residual-in_err-env.result _ c.from_residual-in_err-env.ensures.1
     (declarations_along c.args.raw.now c.in_ok-bare.ensures.sound c.args.cert.now c.args.trail.now _ _ _ room c.in_ok-bare.ensures.bare c.as_slice.ensures.is _ c.declarations.new.trail c.in_err-env.ensures.halts)
 
@@ -26,19 +27,19 @@ walk_main-requires g c =
 
 pub returns-in_err-ty-clause-walks : goal.returns-in_err-ty-clause-walks
 returns-in_err-ty-clause-walks g c =
-    let room : c.room-room.result ≡ 2048 - c.args.trail.now.meter.nest = (let e = c.room-room.ensures in omega arith) in
+    let room : c.room-room.result ≡ most_nested - c.args.trail.now.meter.nest = (let e = c.room-room.ensures in omega arith) in
     along_halted c.args.raw.now c.args.cert.now c.args.trail.now c.walk_main.new.trail c.from_residual-in_err-ty.result _ c.from_residual-in_err-ty.ensures.1
     (main_along c.args.raw.now c.in_ok-bare.ensures.sound c.args.cert.now c.args.trail.now _ _ _ room c.in_ok-bare.ensures.bare c.as_slice.ensures.is c.in_ok-env.env c.declarations.new.trail
     c.in_ok-env.ensures.leads_on _ c.walk_main.new.trail c.in_err-ty.ensures.retraces)
 
 pub returns-clause-walks : goal.returns-clause-walks
 returns-clause-walks g c =
-    let room : c.room-room.result ≡ 2048 - c.args.trail.now.meter.nest = (let e = c.room-room.ensures in omega arith) in
+    let room : c.room-room.result ≡ most_nested - c.args.trail.now.meter.nest = (let e = c.room-room.ensures in omega arith) in
     main_along c.args.raw.now c.in_ok-bare.ensures.sound c.args.cert.now c.args.trail.now _ _ _ room c.in_ok-bare.ensures.bare c.as_slice.ensures.is c.in_ok-env.env c.declarations.new.trail
     c.in_ok-env.ensures.leads_on _ c.walk_main.new.trail c.in_ok-ty.ensures.retraces
 
 pub returns-clause-well_formed : goal.returns-clause-well_formed
 returns-clause-well_formed g c =
-    let room : c.room-room.result ≡ 2048 - c.args.trail.now.meter.nest = (let e = c.room-room.ensures in omega arith) in
+    let room : c.room-room.result ≡ most_nested - c.args.trail.now.meter.nest = (let e = c.room-room.ensures in omega arith) in
     main_well_formed c.args.raw.now c.in_ok-bare.ensures.sound c.args.cert.now c.args.trail.now _ _ _ room c.in_ok-bare.ensures.bare c.as_slice.ensures.is c.in_ok-env.env c.declarations.new.trail
     c.in_ok-env.ensures.leads_on c.in_ok-env.ensures.formed c.view.ensures.formed _ c.walk_main.new.trail c.in_ok-ty.ensures.retraces

@@ -1,5 +1,6 @@
 use Rattle.std.proofs.Common.{rules, ◌-◌, ap, subst, sym}
 use Rattle.calculus_rules.specs.Accepted.{IsAccepted}
+use Rattle.pc_rules.specs.DirectedRun.{most_nested}
 use Rattle.env_check.specs.Places.{StandsAt, bare}
 use Rattle.env_check.specs.Rules.{givens}
 use Rattle.env_check.proofs.Limits.{spelled_few}
@@ -15,8 +16,8 @@ pub returns-in_err-bare-clause-placed : goal.returns-in_err-bare-clause-placed
 returns-in_err-bare-clause-placed g c =
     let raw = c.args.raw.now in
     let m = c.args.m.now in
-    given_on (λ e. StandsAt (bare raw) (2048 - m.nest) (givens raw) raw.main m.account e) c.from_residual.result _ c.from_residual.ensures.1
-    (first_placed (bare raw) (2048 - m.nest) (givens raw) raw.main m.account _)
+    given_on (λ e. StandsAt (bare raw) (most_nested - m.nest) (givens raw) raw.main m.account e) c.from_residual.result _ c.from_residual.ensures.1
+    (first_placed (bare raw) (most_nested - m.nest) (givens raw) raw.main m.account _)
 
 pub check_declarations-requires-clause-few : goal.check_declarations-requires-clause-few
 check_declarations-requires-clause-few g c = rw c.as_slice.ensures.is (spelled_few c.args.raw.now c.requires.spelled).declarations
@@ -41,7 +42,7 @@ returns-in_err-env-clause-placed g c =
     let raw = c.args.raw.now in
     let bare = c.in_ok-bare.ensures.bare in
     let m = c.args.m.now in
-    let p = declarations_placed raw c.in_ok-bare.bare c.as_slice.result.now _ (2048 - m.nest) m.account c.as_slice.ensures.is (ap (λ E. E.levels) bare) (ap (λ E. E.constraints) bare)
+    let p = declarations_placed raw c.in_ok-bare.bare c.as_slice.result.now _ (most_nested - m.nest) m.account c.as_slice.ensures.is (ap (λ E. E.levels) bare) (ap (λ E. E.constraints) bare)
     (ap (λ E. E.declarations) bare) (c.in_err-env.ensures.placed raw.main) in
     search rules
 
@@ -53,7 +54,7 @@ returns-clause-placed g c =
     let el = ap (λ E. E.levels) bare in
     let ec = ap (λ E. E.constraints) bare in
     let m = c.args.m.now in
-    bare_placed raw c.in_ok-bare.bare c.check_main.result (2048 - m.nest) m.account el ec (ap (λ E. E.declarations) bare)
+    bare_placed raw c.in_ok-bare.bare c.check_main.result (most_nested - m.nest) m.account el ec (ap (λ E. E.declarations) bare)
     (main_placed raw sound.once sound.declared c.in_ok-bare.bare c.as_slice.result.now c.as_slice.ensures.is el ec m c.check_declarations.new.m c.in_ok-env.env
     c.in_ok-env.ensures.after c.in_ok-env.ensures.checked c.check_main.result c.check_main.ensures.placed)
 

@@ -1,4 +1,5 @@
 use Rattle.std.proofs.Common.{◌-◌, map}
+use Rattle.pc_rules.specs.DirectedRun.{most_nested}
 use Rattle.inductive_check.specs.Given.{given_of}
 use Rattle.pc_rules.proofs.Meters.{after-refl, after-trans}
 use Rattle.env_check.proofs.Declaring.{checked_none, checked_new, read_more, read_halted, read_place}
@@ -6,7 +7,7 @@ use Rattle.env_check.proofs.declarations.check_declarations.Goals as goal
 
 pub loop-i-init : goal.loop-i-init
 loop-i-init g c = record {
-  checked = checked_none c.args.env (2048 - c.args.m.now.nest) (map given_of c.args.decls.now) c.args.m.now.account c.requires.accepted c.requires.empty;
+  checked = checked_none c.args.env (most_nested - c.args.m.now.nest) (map given_of c.args.decls.now) c.args.m.now.account c.requires.accepted c.requires.empty;
   after = after-refl c.args.m.now;
 }
 

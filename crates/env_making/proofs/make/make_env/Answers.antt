@@ -1,5 +1,6 @@
 use Rattle.std.proofs.Common.{rules, ◌≡◌, ◌-◌, arith, subst, sym}
 use Rattle.calculus_rules.specs.Accepted.{IsAccepted}
+use Rattle.pc_rules.specs.DirectedRun.{most_nested}
 use Rattle.env_check.proofs.Limits.{spelled_few}
 use Rattle.env_check.proofs.ReadFormed.{read_formed}
 use Rattle.env_cert.proofs.Declaring.{accepted_ready}
@@ -23,7 +24,7 @@ declarations-requires-clause-formed g c = rw c.as_slice.ensures.is (read_formed 
 
 pub returns-in_err-env-clause-makes : goal.returns-in_err-env-clause-makes
 returns-in_err-env-clause-makes g c =
-    let room : c.room-room.result ≡ 2048 - c.args.draft.now.meter.nest = (let e = c.room-room.ensures in omega arith) in
+    let room : c.room-room.result ≡ most_nested - c.args.draft.now.meter.nest = (let e = c.room-room.ensures in omega arith) in
     along_passed c.args.raw.now c.args.draft.now c.declarations.new.draft c.from_residual-in_err-env.result _ c.from_residual-in_err-env.ensures.1
     (declarations_along c.args.raw.now c.in_ok-bare.ensures.sound c.args.draft.now _ _ _ room c.in_ok-bare.ensures.bare c.as_slice.ensures.is _ c.declarations.new.draft c.in_err-env.ensures.halts)
 
@@ -36,7 +37,7 @@ infer-requires g c =
 pub returns-in-Err-clause-makes : goal.returns-in-Err-clause-makes
 returns-in-Err-clause-makes g c =
     let raw = c.args.raw.now in
-    let room : c.room-room.result ≡ 2048 - c.args.draft.now.meter.nest = (let e = c.room-room.ensures in omega arith) in
+    let room : c.room-room.result ≡ most_nested - c.args.draft.now.meter.nest = (let e = c.room-room.ensures in omega arith) in
     let p = rw c.new-none.ensures.empty at c.in-Err.ensures.makes in
     rw c.halted_at.ensures.is (main_along raw c.in_ok-bare.ensures.sound c.args.draft.now _ _ _ room c.in_ok-bare.ensures.bare c.as_slice.ensures.is c.in_ok-env.env _ c.declarations.new.draft c.in_ok-env.ensures.leads_on
     _ c.infer.new.draft (main_halts c.room-room.result c.in_ok-env.env _ raw.main _ c.declarations.new.draft c.infer.new.draft p))
@@ -44,7 +45,7 @@ returns-in-Err-clause-makes g c =
 pub returns-in-Ok-clause-makes : goal.returns-in-Ok-clause-makes
 returns-in-Ok-clause-makes g c =
     let raw = c.args.raw.now in
-    let room : c.room-room.result ≡ 2048 - c.args.draft.now.meter.nest = (let e = c.room-room.ensures in omega arith) in
+    let room : c.room-room.result ≡ most_nested - c.args.draft.now.meter.nest = (let e = c.room-room.ensures in omega arith) in
     let p = rw c.new-none.ensures.empty at c.in-Ok.ensures.makes in
     main_along raw c.in_ok-bare.ensures.sound c.args.draft.now _ _ _ room c.in_ok-bare.ensures.bare c.as_slice.ensures.is c.in_ok-env.env _ c.declarations.new.draft c.in_ok-env.ensures.leads_on
     _ c.infer.new.draft (main_given c.room-room.result c.in_ok-env.env _ raw.main _ c.declarations.new.draft c.infer.new.draft p)

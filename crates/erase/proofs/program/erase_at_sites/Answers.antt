@@ -5,6 +5,7 @@ use Rattle.pc_rules.specs.Entailment.{test_of}
 use Rattle.pc_rules.specs.DirectedTyping.{infer}
 use Rattle.pc_rules.specs.DirectedPlaces.{Gives}
 use Rattle.pc_rules.proofs.Entailing.{entailed_decides}
+use Rattle.pc_rules.specs.DirectedRun.{most_nested}
 use Rattle.rule_laws.proofs.TypedCounts.{typed_counted, accepted_counted}
 use Rattle.rule_laws.proofs.Names.{accepted_once}
 use Rattle.erase_rules.specs.DirectedErasure.{erased}
@@ -29,7 +30,7 @@ pub returns-in_err-main-clause-follows : goal.returns-in_err-main-clause-follows
 returns-in_err-main-clause-follows g c =
     let E = c.args.acc.now.env in
     let t = c.args.acc.now.main in
-    let e : c.room-room.result ≡ 2048 - c.args.m.now.nest = omega (arith, c.room-room.ensures.is) in
+    let e : c.room-room.result ≡ most_nested - c.args.m.now.nest = omega (arith, c.room-room.ensures.is) in
     let p = err_from_is_err_and c.from_residual.result c.from_residual.ensures.1 in
     let x = c.in_err-main.field-0.0 in
     rw (p.1, p.2)
@@ -41,7 +42,7 @@ returns-in_err-main-clause-halted g c =
     let E = c.args.acc.now.env in
     let t = c.args.acc.now.main in
     let u = c.args.m.now.account in
-    let e : c.room-room.result ≡ 2048 - c.args.m.now.nest = omega (arith, c.room-room.ensures.is) in
+    let e : c.room-room.result ≡ most_nested - c.args.m.now.nest = omega (arith, c.room-room.ensures.is) in
     let p = err_from_is_err_and c.from_residual.result c.from_residual.ensures.1 in
     let x = c.in_err-main.field-0.0 in
     let inf = infer E (test_of E) c.room-room.result in
@@ -57,7 +58,7 @@ pub returns-in_err-reached-clause-follows : goal.returns-in_err-reached-clause-f
 returns-in_err-reached-clause-follows g c =
     let E = c.args.acc.now.env in
     let t = c.args.acc.now.main in
-    let e : c.room-room.result ≡ 2048 - c.args.m.now.nest = omega (arith, c.room-room.ensures.is) in
+    let e : c.room-room.result ≡ most_nested - c.args.m.now.nest = omega (arith, c.room-room.ensures.is) in
     let p = err_from_is_err_and c.from_residual-in_err-reached.result c.from_residual-in_err-reached.ensures.1 in
     let x = c.in_err-reached.field-0.0 in
     rw (p.1, p.2)
@@ -69,7 +70,7 @@ returns-in_err-reached-clause-halted g c =
     let E = c.args.acc.now.env in
     let t = c.args.acc.now.main in
     let u = c.args.m.now.account in
-    let e : c.room-room.result ≡ 2048 - c.args.m.now.nest = omega (arith, c.room-room.ensures.is) in
+    let e : c.room-room.result ≡ most_nested - c.args.m.now.nest = omega (arith, c.room-room.ensures.is) in
     let p = err_from_is_err_and c.from_residual-in_err-reached.result c.from_residual-in_err-reached.ensures.1 in
     let x = c.in_err-reached.field-0.0 in
     let inf = infer E (test_of E) c.room-room.result in
@@ -82,7 +83,7 @@ pub returns-in-Some-clause-follows : goal.returns-in-Some-clause-follows
 returns-in-Some-clause-follows g c =
     let E = c.args.acc.now.env in
     let t = c.args.acc.now.main in
-    let e : c.room-room.result ≡ 2048 - c.args.m.now.nest = omega (arith, c.room-room.ensures.is) in
+    let e : c.room-room.result ≡ most_nested - c.args.m.now.nest = omega (arith, c.room-room.ensures.is) in
     let r : Reached = record { constants = c.in_ok-reached.reached.constants.items; without_body = c.in_ok-reached.reached.without_body } in
     subst (λ n. FollowsAt (erased_program E (test_of E) n t c.args.m.now.account) (Ok (ReachesAxiom c.in-Some.name)) c.args.m.now c.reach_constants.new.m) e
     (axiom_answered E (test_of E) c.room-room.result t c.in_ok-main.main c.args.m.now c.erased_at.new.m c.reach_constants.new.m c.in_ok-main.ensures.follows r c.in-Some.name c.in-Some.is
@@ -93,13 +94,13 @@ returns-in-Some-clause-axiom g c = λ k same.
     let E = c.args.acc.now.env in
     let f = returns-in-Some-clause-follows g c in
     let q : c.in-Some.name ≡ k = cc in
-    axioms_have_no_body E (test_of E) (2048 - c.args.m.now.nest) c.args.acc.now.main k c.args.m.now.account c.reach_constants.new.m.account (f.answer ∙ ap (λ j. Gives (ReachesAxiom j) c.reach_constants.new.m.account) q)
+    axioms_have_no_body E (test_of E) (most_nested - c.args.m.now.nest) c.args.acc.now.main k c.args.m.now.account c.reach_constants.new.m.account (f.answer ∙ ap (λ j. Gives (ReachesAxiom j) c.reach_constants.new.m.account) q)
 
 pub returns-clause-follows : goal.returns-clause-follows
 returns-clause-follows g c =
     let E = c.args.acc.now.env in
     let t = c.args.acc.now.main in
-    let e : c.room-room.result ≡ 2048 - c.args.m.now.nest = omega (arith, c.room-room.ensures.is) in
+    let e : c.room-room.result ≡ most_nested - c.args.m.now.nest = omega (arith, c.room-room.ensures.is) in
     let cs = c.in_ok-reached.reached.constants.items in
     let r : Reached = record { constants = cs; without_body = c.in_ok-reached.reached.without_body } in
     let same : c.of.result ≡ cs = c.of.ensures.is ∙ ap reverse c.reverse.ensures.items ∙ reverse-reverse cs in
@@ -112,32 +113,32 @@ pub returns-clause-erased : goal.returns-clause-erased
 returns-clause-erased g c =
     let E = c.args.acc.now.env in
     let a = c.requires.accepted in
-    program_is_erased E a c.requires.few (test_of E) (entailed_decides E.levels E.constraints a.consistent a.over) (2048 - c.args.m.now.nest) c.args.acc.now.main c.args.acc.now.main_type c.requires.typed _ c.args.m.now.account c.reach_constants.new.m.account (returns-clause-follows g c).answer
+    program_is_erased E a c.requires.few (test_of E) (entailed_decides E.levels E.constraints a.consistent a.over) (most_nested - c.args.m.now.nest) c.args.acc.now.main c.args.acc.now.main_type c.requires.typed _ c.args.m.now.account c.reach_constants.new.m.account (returns-clause-follows g c).answer
 
 pub returns-clause-sources : goal.returns-clause-sources
 returns-clause-sources g c =
     let E = c.args.acc.now.env in
     let a = c.requires.accepted in
-    (program_has_form E a c.requires.few (test_of E) (entailed_decides E.levels E.constraints a.consistent a.over) (2048 - c.args.m.now.nest) c.args.acc.now.main c.args.acc.now.main_type c.requires.typed _ c.args.m.now.account c.reach_constants.new.m.account (returns-clause-follows g c).answer).1
+    (program_has_form E a c.requires.few (test_of E) (entailed_decides E.levels E.constraints a.consistent a.over) (most_nested - c.args.m.now.nest) c.args.acc.now.main c.args.acc.now.main_type c.requires.typed _ c.args.m.now.account c.reach_constants.new.m.account (returns-clause-follows g c).answer).1
 
 pub returns-clause-form : goal.returns-clause-form
 returns-clause-form g c =
     let E = c.args.acc.now.env in
     let a = c.requires.accepted in
-    (program_has_form E a c.requires.few (test_of E) (entailed_decides E.levels E.constraints a.consistent a.over) (2048 - c.args.m.now.nest) c.args.acc.now.main c.args.acc.now.main_type c.requires.typed _ c.args.m.now.account c.reach_constants.new.m.account (returns-clause-follows g c).answer).0
+    (program_has_form E a c.requires.few (test_of E) (entailed_decides E.levels E.constraints a.consistent a.over) (most_nested - c.args.m.now.nest) c.args.acc.now.main c.args.acc.now.main_type c.requires.typed _ c.args.m.now.account c.reach_constants.new.m.account (returns-clause-follows g c).answer).0
 
 pub returns-clause-fewer_nodes : goal.returns-clause-fewer_nodes
 returns-clause-fewer_nodes g c =
     let E = c.args.acc.now.env in
-    program_is_small E (test_of E) (2048 - c.args.m.now.nest) c.args.acc.now.main _ c.args.m.now.account c.reach_constants.new.m.account (returns-clause-follows g c).answer
+    program_is_small E (test_of E) (most_nested - c.args.m.now.nest) c.args.acc.now.main _ c.args.m.now.account c.reach_constants.new.m.account (returns-clause-follows g c).answer
 
 pub returns-clause-no_deeper : goal.returns-clause-no_deeper
 returns-clause-no_deeper g c =
     let E = c.args.acc.now.env in
-    programs_no_greater E (test_of E) (2048 - c.args.m.now.nest) c.args.acc.now.main _ c.args.m.now.account c.reach_constants.new.m.account (returns-clause-follows g c).answer
+    programs_no_greater E (test_of E) (most_nested - c.args.m.now.nest) c.args.acc.now.main _ c.args.m.now.account c.reach_constants.new.m.account (returns-clause-follows g c).answer
 
 pub returns-clause-value : goal.returns-clause-value
 returns-clause-value g c =
     let E = c.args.acc.now.env in
     let a = c.requires.accepted in
-    program_keeps_values E a c.requires.few (test_of E) (entailed_decides E.levels E.constraints a.consistent a.over) (2048 - c.args.m.now.nest) c.args.acc.now.main c.args.acc.now.main_type c.requires.typed _ c.args.m.now.account c.reach_constants.new.m.account (returns-clause-follows g c).answer
+    program_keeps_values E a c.requires.few (test_of E) (entailed_decides E.levels E.constraints a.consistent a.over) (most_nested - c.args.m.now.nest) c.args.acc.now.main c.args.acc.now.main_type c.requires.typed _ c.args.m.now.account c.reach_constants.new.m.account (returns-clause-follows g c).answer

@@ -1,6 +1,6 @@
 use Rattle.std.proofs.Common.{◌≡◌, take}
 use Rattle.pc_terms.specs.Lists.{types_of}
-use Rattle.calculus_rules.specs.Listed.{list_of}
+use Rattle.pc_terms.specs.Syntax.{list_of}
 use Rattle.pc_rules.specs.DirectedComparison.{lifted_types}
 use Rattle.instances.proofs.contexts.definition_entries.Given as goal
 

@@ -1,12 +1,12 @@
 use Rattle.std.proofs.Common.{rules, arith, ◌≡◌, ℕ, suc, ap, refl, subst, sym, ◌*◌, ◌/◌, ◌+◌, ◌-◌, ◌<◌, ◌≤◌, ◌∷◌, ◌++◌, [], List, true, false, length, length-append, drop, get_or, reverse, take, ◌∙◌}
 use Rattle.std.proofs.lemmas.List.{take-append-le}
-use Rattle.closure_lift.specs.Lifted.{ret_of}
+use Rattle.std.proofs.lemmas.Result.{on_ok_weaker}
+use Rattle.closure_lift.specs.Lifted.{tail_of}
 use Rattle.closure_lift.specs.LiftedView.{seen, branches_of}
 use Rattle.closure_lift.specs.LiftedWeight.{block_weight, branches_weight, bound_weight}
 use Rattle.closure_lift.specs.declared.program.LiftedBranch.{LiftedBranch}
 use Rattle.wasm_emit.specs.Pushed.{Pushed, ends}
 use Rattle.wasm_emit.proofs.Lighter.{op_lighter, tail_lighter, arm_lighter}
-use Rattle.wasm_emit.proofs.Pushing.{on_ok}
 use Rattle.known_calls.specs.KnownPlaces.{Place}
 use Rattle.known_calls.specs.KnownTests.{Alternative, Fielded, none, chain, most_rounds}
 use Rattle.known_calls.specs.KnownCode.{atom}
@@ -22,7 +22,7 @@ push_block-push_binding-requires t c =
     let ops = c.as_slice-op-items.result.now in
     let d = op_lighter ops c.b.inside.bindings c.loop-op.op-index c.op-item.result c.b.inside.tail c.args.b.now c.loop-op-test.true c.op-item.is c.as_slice-op-items.ensures.is c.b.view_is in
     let e : 64 * bound_weight (seen c.op-item.result) + 5 < 64 * block_weight c.args.b.now = omega (arith, d) in
-    let m : Begins (bound_marks (seen c.op-item.result)) (drop 1 (reverse c.loop-op.marks.items)) = begin_op ops c.loop-op.op-index c.op-item.result (ret_of (seen c.b.inside.tail)) c.loop-op-test.true c.op-item.is (reverse c.loop-op.marks.items) c.loop-op.invariant.marked in
+    let m : Begins (bound_marks (seen c.op-item.result)) (drop 1 (reverse c.loop-op.marks.items)) = begin_op ops c.loop-op.op-index c.op-item.result (tail_of (seen c.b.inside.tail)) c.loop-op-test.true c.op-item.is (reverse c.loop-op.marks.items) c.loop-op.invariant.marked in
     search (rules, e, m)
 
 pub push_block-push_op-requires : goal.push_block-push_op-requires
@@ -36,7 +36,7 @@ push_block-push_op-requires t c =
 pub push_block-loop-op-preserved : goal.push_block-loop-op-preserved
 push_block-loop-op-preserved t c =
     let ops = c.as_slice-op-items.result.now in
-    let tail = ret_of (seen c.b.inside.tail) in
+    let tail = tail_of (seen c.b.inside.tail) in
     let all = reverse c.loop-op.marks.items in
     let now = place_bound c.loop-op.local (op_unmade c.args.p.now (reverse c.loop-op.places.items) (get_or all 0 true) (seen c.op-item.result)) in
     record {
@@ -189,7 +189,7 @@ push_op-returns-in_ok-push-in-Case-clause-pushed t c =
     let o2 = c.push-in-Case.new.out.items in
     let o3 = c.push_branches.new.out.items in
     let x : Pushed o0 o1 (atom env c.in-Case.a) = subst (λ zs. Pushed o0 o1 (atom (reverse zs) c.in-Case.a)) c.as_slice-in-Case.ensures.value c.in_ok-push_atom-in-Case.ensures.pushed in
-    on_ok c.push_branches.result
+    on_ok_weaker c.push_branches.result
     (λ y. subst (λ o. Pushed o0 o3 (op_code Q env d at (seen o))) (sym c.in-Case.is) (case_pushed Q env d at c.in-Case.a c.in-Case.bs o0 o1 o2 o3 x c.in_ok-push-in-Case.ensures.pushed y))
     c.push_branches.ensures.pushed
 
@@ -201,7 +201,7 @@ push_branches-returns-then-count_from-eq0-clause-pushed t c =
     let at = c.args.site.at in
     let o0 = c.args.out.now.items in
     let o1 = c.push_search.new.out.items in
-    on_ok c.push_search.result
+    on_ok_weaker c.push_search.result
     (λ y. subst (λ bs. Pushed o0 o1 (branches_code Q env d at bs)) c.as_slice-items.ensures.is (one_kind Q env d at c.as_slice-items.result.now o0 o1 (sym c.count_from.ensures.is ∙ c.if-count_from-eq0.true) y))
     c.push_search.ensures.pushed
 
@@ -209,7 +209,7 @@ pub push_branches-returns-then-count_from-eq0-clause-left : goal.push_branches-r
 push_branches-returns-then-count_from-eq0-clause-left t c =
     let all = reverse c.args.marks.now.items in
     let new = reverse c.push_search.new.marks.items in
-    on_ok c.push_search.result
+    on_ok_weaker c.push_search.result
     (λ y. subst (λ bs. new ≡ drop (length (empty_marks bs ++ head_marks bs)) all) c.as_slice-items.ensures.is (bare_left (branches_of c.as_slice-items.result.now) all new (sym c.count_from.ensures.is ∙ c.if-count_from-eq0.true) y))
     c.push_search.ensures.left
 
@@ -221,7 +221,7 @@ push_branches-returns-then-count_from-lt-MANY_ALTERNATIVES-clause-pushed t c =
     let at = c.args.site.at in
     let o0 = c.args.out.now.items in
     let o1 = c.push_few_bare.new.out.items in
-    on_ok c.push_few_bare.result
+    on_ok_weaker c.push_few_bare.result
     (λ y. subst (λ bs. Pushed o0 o1 (branches_code Q env d at bs)) c.as_slice-items.ensures.is
     (few_bare Q env d at c.as_slice-items.result.now o0 o1 (λ z. omega (arith, z, c.count_from.ensures.is, c.if-count_from-eq0.false)) (omega (arith, c.count_from-2.ensures.is, c.if-count_from-lt-MANY_ALTERNATIVES.true)) y))
     c.push_few_bare.ensures.pushed
@@ -234,7 +234,7 @@ push_branches-returns-clause-pushed t c =
     let at = c.args.site.at in
     let o0 = c.args.out.now.items in
     let o1 = c.push_both_kinds.new.out.items in
-    on_ok c.push_both_kinds.result
+    on_ok_weaker c.push_both_kinds.result
     (λ y. subst (λ bs. Pushed o0 o1 (branches_code Q env d at bs)) c.as_slice-items.ensures.is
     (both_kinds Q env d at c.as_slice-items.result.now o0 o1 (λ z. omega (arith, z, c.count_from.ensures.is, c.if-count_from-eq0.false)) (omega (arith, c.count_from-2.ensures.is, c.if-count_from-lt-MANY_ALTERNATIVES.false)) y))
     c.push_both_kinds.ensures.pushed
@@ -248,7 +248,7 @@ push_few_bare-returns-clause-pushed t c =
     let o2 = c.push_search.new.out.items in
     let z = subst (λ zs. Pushed o1 o2 (search_code Q (reverse zs) d c.in_ok-at.at Fielded 0 most_rounds (branches_of bs))) c.in_ok-begun.ensures.same c.in_ok-push_search.ensures.pushed in
     let x = subst (λ a. Pushed o1 o2 (search_code Q (reverse c.args.places.now.items) d a Fielded 0 most_rounds (branches_of bs))) c.in_ok-at.ensures.is z in
-    on_ok c.push_ends.result (λ y. few_pushed Q (reverse c.args.places.now.items) d c.args.site.at bs c.args.out.now.items o1 o2 c.push_ends.new.out.items c.in_ok-begun.begun c.in_ok-begun.ensures.pushed x y) c.push_ends.ensures.pushed
+    on_ok_weaker c.push_ends.result (λ y. few_pushed Q (reverse c.args.places.now.items) d c.args.site.at bs c.args.out.now.items o1 o2 c.push_ends.new.out.items c.in_ok-begun.begun c.in_ok-begun.ensures.pushed x y) c.push_ends.ensures.pushed
 
 pub push_both_kinds-returns-clause-pushed : goal.push_both_kinds-returns-clause-pushed
 push_both_kinds-returns-clause-pushed t c =
@@ -256,7 +256,7 @@ push_both_kinds-returns-clause-pushed t c =
     let bs = c.args.bs.now in
     let d = c.args.site.local in
     let x = subst (λ zs. Pushed c.push.new.out.items c.push_search-2.new.out.items (search_code Q (reverse zs) d c.in_ok-at.at Fielded 0 most_rounds (branches_of bs))) c.in_ok-push_search.ensures.same c.in_ok-push_search-2.ensures.pushed in
-    on_ok c.push-2.result
+    on_ok_weaker c.push-2.result
     (λ y. both_pushed Q (reverse c.args.places.now.items) d c.args.site.at bs c.in_ok-at.at c.args.out.now.items c.push_bare_test.new.out.items c.push_search.new.out.items c.push.new.out.items c.push_search-2.new.out.items c.push-2.new.out.items c.in_ok-at.ensures.is
     c.in_ok-push_bare_test.ensures.pushed c.in_ok-push_search.ensures.pushed c.in_ok-push.ensures.pushed x y)
     c.push-2.ensures.pushed
@@ -272,7 +272,7 @@ push_search-push_halves-requires t c =
 pub push_search-returns-clause-pushed : goal.push_search-returns-clause-pushed
 push_search-returns-clause-pushed t c =
     let few = by_halves_not c.args.part.rounds (count_of c.args.part.kind (branches_of c.args.bs.now)) (sym c.by_halves.ensures.is ∙ c.if-by_halves.false) in
-    on_ok c.push_alone.result
+    on_ok_weaker c.push_alone.result
     (λ y. alone_is c.args.p.now (reverse c.args.places.now.items) c.args.part.site.local c.args.part.kind c.args.part.site.at c.args.part.first c.args.part.rounds c.args.bs.now c.args.out.now.items c.push_alone.new.out.items few y)
     c.push_alone.ensures.pushed
 
@@ -319,7 +319,7 @@ push_halves-returns-clause-pushed t c =
     let er : c.args.part.rounds ≡ suc left = omega (arith, some) in
     let z = subst (λ zs. Pushed o3 o4 (search_code Q (reverse zs) d c.in_ok-at.at k c.in-Some.second left (branches_of c.branches_from-behind.result.now))) c.in_ok-push_search.ensures.same c.in_ok-push_search-2.ensures.pushed in
     let x = subst (λ xs. Pushed o3 o4 (search_code Q (reverse c.args.places.now.items) d c.in_ok-at.at k c.in-Some.second left (branches_of xs))) c.branches_from-behind.ensures.is z in
-    on_ok c.push-2.result
+    on_ok_weaker c.push-2.result
     (λ y. halves_pushed Q (reverse c.args.places.now.items) d k c.args.part.site.at c.args.part.first c.args.part.rounds bs i c.in-Some.second left c.in_ok-at.at c.requires.many half c.place_of-place.ensures.here es er c.in_ok-at.ensures.is c.args.out.now.items c.push_below_test.new.out.items
     c.push_search.new.out.items o3 o4 c.push-2.new.out.items c.in_ok-push_below_test.ensures.pushed c.in_ok-push_search.ensures.pushed c.in_ok-push.ensures.pushed x y)
     c.push-2.ensures.pushed
@@ -332,7 +332,7 @@ push_halves-returns-clause-left t c =
     let last = reverse c.push_search-2.new.marks.items in
     let new = reverse c.push_search.new.marks.items in
     let x = subst (λ xs. last ≡ drop (length (kind_marks k (branches_of xs))) new) c.branches_from-behind.ensures.is c.in_ok-push_search-2.ensures.left in
-    on_ok c.push-2.result
+    on_ok_weaker c.push-2.result
     (λ y. both_parts (kind_marks k (branches_of bs)) (kind_marks k (branches_of (take i bs))) (kind_marks k (branches_of (drop i bs))) (reverse c.args.marks.now.items) (kind_marks_halves k i bs) c.requires.marked new c.in_ok-push_search.ensures.left last x)
     c.push-2.ensures.pushed
 

@@ -1,5 +1,5 @@
 use Rattle.std.proofs.Common.{◌≡◌, ◌+◌, ◌*◌, ◌++◌, ◌≤◌, drop, take, length, reverse, List, true, false}
-use Rattle.closure_lift.specs.Lifted.{ret_of, lets_of}
+use Rattle.closure_lift.specs.Lifted.{tail_of, block_of}
 use Rattle.closure_lift.specs.LiftedView.{seen, bounds_of, branches_of}
 use Rattle.closure_lift.specs.LiftedWeight.{block_weight, branches_weight, bound_weight}
 use Rattle.wasm_core.specs.declared.instrs.Instr.{Instr}
@@ -59,9 +59,9 @@ decreases-push_fielded l = 64 * block_weight l.b.now.body + 1
 
 abbrev pub invariant-push_block-loop-op : goal.invariant-push_block-loop-op
 invariant-push_block-loop-op l = record {
-  pushed : (rest : List Instr) → l.out.items ++ block_code l.p (reverse l.places.items) l.local l.site.at (lets_of (bounds_of (drop l.op-index l.op-items)) (ret_of (seen l.b-inside.tail))) rest ≡ l.initial.out.items ++ block_code l.p (reverse l.initial.places.items) l.site.local l.site.at l.b rest;
-  marked : Begins (block_marks (lets_of (bounds_of (drop l.op-index l.op-items)) (ret_of (seen l.b-inside.tail)))) (reverse l.marks.items);
-  left : drop (length (block_marks (lets_of (bounds_of (drop l.op-index l.op-items)) (ret_of (seen l.b-inside.tail))))) (reverse l.marks.items) ≡ drop (length (block_marks l.b)) (reverse l.initial.marks.items);
+  pushed : (rest : List Instr) → l.out.items ++ block_code l.p (reverse l.places.items) l.local l.site.at (block_of (bounds_of (drop l.op-index l.op-items)) (tail_of (seen l.b-inside.tail))) rest ≡ l.initial.out.items ++ block_code l.p (reverse l.initial.places.items) l.site.local l.site.at l.b rest;
+  marked : Begins (block_marks (block_of (bounds_of (drop l.op-index l.op-items)) (tail_of (seen l.b-inside.tail)))) (reverse l.marks.items);
+  left : drop (length (block_marks (block_of (bounds_of (drop l.op-index l.op-items)) (tail_of (seen l.b-inside.tail))))) (reverse l.marks.items) ≡ drop (length (block_marks l.b)) (reverse l.initial.marks.items);
   kept : take l.outer l.places.items ≡ l.initial.places.items;
   more : l.outer ≤ length l.places.items;
 }

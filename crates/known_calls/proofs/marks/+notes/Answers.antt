@@ -1,10 +1,10 @@
 use Rattle.std.proofs.Common.{rules, arith, ℕ, ◌*◌, ◌+◌, ◌-◌, ◌<◌, ◌≡◌, ◌∷◌, ◌++◌, [], List, length, get_or, refl, reverse, take, ap, sym, ◌∙◌}
-use Rattle.closure_lift.specs.Lifted.{ret_of, lets_of}
+use Rattle.std.proofs.lemmas.Result.{on_ok_weaker}
+use Rattle.closure_lift.specs.Lifted.{tail_of, block_of}
 use Rattle.closure_lift.specs.LiftedView.{seen, branches_of}
 use Rattle.closure_lift.specs.declared.program.LiftedOp.{LiftedOp}
 use Rattle.closure_lift.specs.LiftedWeight.{block_weight, branches_weight, bound_weight}
 use Rattle.wasm_emit.proofs.Lighter.{op_lighter, tail_lighter, arm_lighter}
-use Rattle.wasm_emit.proofs.Pushing.{on_ok}
 use Rattle.known_calls.specs.KnownPlaces.{Times, Never, More, names, block_reads, branches_read}
 use Rattle.known_calls.specs.KnownMarks.{also, bound_reads, field_marks, empties_read, empty_marks, head_marks, heads_read}
 use Rattle.known_calls.proofs.KnownMarking.{also_none, also_both, field_marked, heads_step, empties_step, head_marks_step, empty_marks_step, noted_init, marked_init, noted_more, marked_more, noted_end, marked_end, arms_noted_init, arms_marked_init, arms_noted_more, arms_marked_more, branches_noted, binders_gone, no_heads, no_empties}
@@ -25,7 +25,7 @@ note_block-note_binding-requires t c =
 pub note_block-loop-k-init : goal.note_block-loop-k-init
 note_block-loop-k-init t c =
     let ops = c.as_slice-ops.result.now in
-    let whole = ap (λ ps. lets_of ps (ret_of (seen c.b.inside.tail))) c.as_slice-ops.ensures.is ∙ c.b.view_is in
+    let whole = ap (λ ps. block_of ps (tail_of (seen c.b.inside.tail))) c.as_slice-ops.ensures.is ∙ c.b.view_is in
     record {
       noted = noted_init ops (seen c.b.inside.tail) c.args.b.now (length ops) whole refl (reverse c.args.notes.now.items) (reverse c.push_unread.new.notes.items) (reverse c.note_op.new.notes.items) c.in_ok-push_unread.ensures.pushed c.in_ok-note_op.ensures.noted;
       marked = marked_init ops (seen c.b.inside.tail) c.args.b.now (length ops) whole refl (reverse c.args.marks.now.items) (reverse c.note_op.new.marks.items) c.in_ok-note_op.ensures.marked;
@@ -34,7 +34,7 @@ note_block-loop-k-init t c =
 pub note_block-loop-k-preserved : goal.note_block-loop-k-preserved
 note_block-loop-k-preserved t c =
     let ops = c.as_slice-ops.result.now in
-    let whole = ap (λ ps. lets_of ps (ret_of (seen c.b.inside.tail))) c.as_slice-ops.ensures.is ∙ c.b.view_is in
+    let whole = ap (λ ps. block_of ps (tail_of (seen c.b.inside.tail))) c.as_slice-ops.ensures.is ∙ c.b.view_is in
     record {
       noted = noted_more ops (seen c.b.inside.tail) c.args.b.now (length ops) whole refl c.loop-k.k c.index-ops-n.result c.loop-k-test.true c.index-ops-n.is (reverse c.args.notes.now.items) (reverse c.loop-k.notes.items) (reverse c.note_binding.new.notes.items)
           c.loop-k.invariant.noted c.in_ok-note_binding.ensures.noted;
@@ -50,7 +50,7 @@ note_block-returns-clause-marked t c = marked_end c.args.b.now (length c.as_slic
 
 pub note_branches-returns-clause-noted : goal.note_branches-returns-clause-noted
 note_branches-returns-clause-noted t c =
-    on_ok c.note_empties.result
+    on_ok_weaker c.note_empties.result
     (λ e. branches_noted c.args.bs.now c.as_slice.result.now c.as_slice-2.result.now (reverse c.args.notes.now.items) (reverse c.note_heads.new.notes.items) (reverse c.note_empties.new.notes.items) c.as_slice.ensures.is c.as_slice-2.ensures.is c.in_ok-note_heads.ensures.noted e)
     c.note_empties.ensures.noted
 

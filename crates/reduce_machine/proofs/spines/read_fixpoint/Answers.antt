@@ -2,7 +2,8 @@ use Rattle.std.proofs.Common.{map, sym, ap, subst as along}
 use Rattle.std.proofs.lemmas.Result.{err_from_is_err_and}
 use Rattle.trees.specs.Measures.{IsBeyond}
 use Rattle.pc_terms.specs.Syntax.{Term, apply}
-use Rattle.redexes.proofs.Unfolding.{body_beyond, function_beyond}
+use Rattle.pc_terms.proofs.Applied.{function_beyond}
+use Rattle.redexes.proofs.Unfolding.{body_beyond}
 use Rattle.reduce_machine.specs.Reads.{read}
 use Rattle.reduce_machine.proofs.spines.read_fixpoint.Goals as goal
 

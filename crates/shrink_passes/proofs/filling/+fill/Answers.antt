@@ -1,7 +1,7 @@
 use Rattle.std.proofs.Common.{rules, arith, ◌≡◌, ◌<◌, ◌≤◌, length, sym, ap, ◌∙◌, subst}
 use Rattle.std.specs.Prelude.{nat_eq}
 use Rattle.std.specs.HashMap.{get}
-use Rattle.trees.specs.Measures.{depth, depth_trees}
+use Rattle.trees.specs.Measures.{depth, depth_trees, depth_limit}
 use Rattle.box_terms.specs.BoxSyntax.{BCase, BFix}
 use Rattle.box_terms.specs.BoxLists.{arms_of, bodies_of, rargs_of}
 use Rattle.box_terms.specs.BoxView.{box_of}
@@ -51,7 +51,7 @@ fill_branches-fill-requires t c =
     let l : c.loop-i.i < length c.as_slice-xs.result.now = grind arith in
     let d = subst (λ xs. depth c.index-xs-i.result.body ≤ depth_trees (arms_of xs)) c.as_slice-xs.ensures.is (arm_is_less c.as_slice-xs.result.now c.loop-i.i c.index-xs-i.result l c.index-xs-i.is) in
     let s = subst (λ xs. depth (filled m c.index-xs-i.result.body) ≤ depth_trees (filled_terms m (arms_of xs))) c.as_slice-xs.ensures.is (arm_filled_is_less m c.as_slice-xs.result.now c.loop-i.i c.index-xs-i.result l c.index-xs-i.is) in
-    let room : depth (filled m c.index-xs-i.result.body) ≤ 2048 = omega (arith, s, c.requires.shallow) in
+    let room : depth (filled m c.index-xs-i.result.body) ≤ depth_limit = omega (arith, s, c.requires.shallow) in
     search (rules, d, room)
 
 pub fill_defs-fill-requires : goal.fill_defs-fill-requires
@@ -62,5 +62,5 @@ fill_defs-fill-requires t c =
     (body_is_less (length c.args.ds.now) c.as_slice-xs.result.now c.loop-i.i c.index-xs-i.result l c.index-xs-i.is) in
     let s = subst (λ ds. depth (filled m c.index-xs-i.result.body) ≤ depth_trees (filled_terms m (bodies_of (length c.args.ds.now) ds))) c.as_slice-xs.ensures.is
     (body_filled_is_less m (length c.args.ds.now) c.as_slice-xs.result.now c.loop-i.i c.index-xs-i.result l c.index-xs-i.is) in
-    let room : depth (filled m c.index-xs-i.result.body) ≤ 2048 = omega (arith, s, c.requires.shallow) in
+    let room : depth (filled m c.index-xs-i.result.body) ≤ depth_limit = omega (arith, s, c.requires.shallow) in
     search (rules, d, room)

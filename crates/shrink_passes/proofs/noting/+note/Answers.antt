@@ -1,11 +1,12 @@
 use Rattle.std.proofs.Common.{rules, arith, ◌<◌, ◌≤◌, ◌&&◌, length, Some, subst, ap, ◌∙◌, sym}
 use Rattle.std.specs.Prelude.{nat_eq}
 use Rattle.std.specs.HashMap.{get}
+use Rattle.std.proofs.lemmas.Result.{on_ok_weaker}
+use Rattle.std.proofs.Math.Bool.{and_assoc, and-true}
 use Rattle.trees.specs.Measures.{depth, depth_trees}
 use Rattle.box_terms.specs.BoxLists.{arms_of, bodies_of}
 use Rattle.box_terms.proofs.Items.{arm_is_less, body_is_less}
 use Rattle.shrink_passes.specs.DeadPlaces.{is_place, is_reached, noted}
-use Rattle.shrink_passes.proofs.Flagging.{and_true, and_more, on_ok_map}
 use Rattle.shrink_passes.proofs.Noted.{fits_noted}
 use Rattle.shrink_passes.proofs.noting.+note.Goals as goal
 
@@ -27,13 +28,13 @@ note_whole-returns-in-None-clause-noted t c = λ k p.
     let old = is_place (get nat_eq c.args.table.now) k p in
     let u = c.args.t.now in
     c.in_ok-note.ensures.noted k p
-    ∙ ap (λ z. old && z) (sym (fits_noted k p u ∙ ap (λ h. noted k p u && is_reached k p h) (sym c.in_ok-note.ensures.head ∙ c.in-None.is) ∙ and_true (noted k p u)))
+    ∙ ap (λ z. old && z) (sym (fits_noted k p u ∙ ap (λ h. noted k p u && is_reached k p h) (sym c.in_ok-note.ensures.head ∙ c.in-None.is) ∙ and-true (noted k p u)))
 
 pub note_whole-returns-in-Some-clause-noted : goal.note_whole-returns-in-Some-clause-noted
-note_whole-returns-in-Some-clause-noted t c = on_ok_map c.lose.result
+note_whole-returns-in-Some-clause-noted t c = on_ok_weaker c.lose.result
     (λ f k p.
     let old = is_place (get nat_eq c.args.table.now) k p in
     let u = c.args.t.now in
     let r = is_reached k p (Some c.in-Some.of) in
-    f k p ∙ ap (λ z. z && r) (c.in_ok-note.ensures.noted k p) ∙ and_more old (noted k p u) r
+    f k p ∙ ap (λ z. z && r) (c.in_ok-note.ensures.noted k p) ∙ and_assoc old (noted k p u) r
     ∙ ap (λ z. old && z) (sym (fits_noted k p u ∙ ap (λ h. noted k p u && is_reached k p h) (sym c.in_ok-note.ensures.head ∙ c.in-Some.is)))) c.lose.ensures.lost

@@ -1,16 +1,16 @@
 use Rattle.std.proofs.Common.{rules, arith, ◌+◌, ◌<◌, ◌≤◌, ◌&&◌, length, subst, ap, ◌∙◌, sym}
+use Rattle.std.proofs.Math.Bool.{and-true}
 use Rattle.trees.specs.Measures.{depth, depth_trees}
 use Rattle.box_terms.specs.BoxLists.{arms_of, bodies_of}
 use Rattle.box_terms.proofs.Items.{arm_is_less, body_is_less}
 use Rattle.shrink_passes.specs.DeadPlaces.{flag_at}
-use Rattle.shrink_passes.proofs.Flagging.{and_true}
 use Rattle.shrink_passes.proofs.UnusedPlaces.{closed_unnamed}
 use Rattle.shrink_passes.proofs.unused.+pass.Goals as goal
 
 pub pass-returns-then-loose-n-clause-passed : goal.pass-returns-then-loose-n-clause-passed
 pass-returns-then-loose-n-clause-passed t c = λ j.
     let l : c.loose.result ≤ c.args.n + j = omega (arith, c.if-loose-n.true) in
-    sym (ap (λ z. flag_at j c.args.spare.now && z) (closed_unnamed c.args.t.now c.loose.result (c.args.n + j) c.loose.ensures.closed l) ∙ and_true (flag_at j c.args.spare.now))
+    sym (ap (λ z. flag_at j c.args.spare.now && z) (closed_unnamed c.args.t.now c.loose.result (c.args.n + j) c.loose.ensures.closed l) ∙ and-true (flag_at j c.args.spare.now))
 
 pub pass_branches-pass-requires : goal.pass_branches-pass-requires
 pass_branches-pass-requires t c =

@@ -1,7 +1,7 @@
 use Rattle.std.proofs.Common.{rules, arith, ◌≡◌, ◌+◌, ◌-◌, ◌<◌, ◌≤◌, ℕ, false, Bool, sym, ap, ◌∙◌}
 use Rattle.trees.specs.Tree.{Rel}
 use Rattle.trees.specs.Parallel.{put_all}
-use Rattle.trees.specs.Measures.{depth, IsWithin}
+use Rattle.trees.specs.Measures.{depth, depth_limit, IsWithin}
 use Rattle.box_terms.specs.BoxSyntax.{BoxTerm, BLambda}
 use Rattle.box_terms.specs.BoxView.{box_of}
 use Rattle.shrink_passes.specs.DeadPlaces.{flag_at}
@@ -18,7 +18,7 @@ unwrap-requires t c =
     let e : box_of c.view.result.now ≡ BLambda c.in-Lambda.b = ap box_of c.in-Lambda.is in
     let w : IsWithin (wrapped D (c.args.p + 1) (c.args.n - 1) s c.in-Lambda.b) = wrapped_inside D c.args.p c.args.n s c.args.t.now c.in-Lambda.b some (sym e ∙ c.view.ensures.is) c.requires.within in
     let less : c.args.n - 1 < c.args.n = omega arith in
-    let small : c.args.p + 1 + (c.args.n - 1) ≤ 2048 = omega (arith, c.requires.small) in
+    let small : c.args.p + 1 + (c.args.n - 1) ≤ depth_limit = omega (arith, c.requires.small) in
     search (rules, less, small, w)
 
 pub made-requires : goal.made-requires

@@ -1,15 +1,15 @@
 use Rattle.std.proofs.lemmas.Result.{err_from_is_err_and}
 use Rattle.pc_rules.specs.DirectedEvaluation.{evaluation}
 use Rattle.pc_rules.proofs.FairSearch.{evaluate_leaves}
-use Rattle.pc_rules.proofs.Meters.{after-refl}
-use Rattle.source_eval.proofs.Ending.{none_left, spent_follows, settled, after_node, fault_follows, memory_follows, passed, value_follows, stuck_follows, value_is, stuck_valueless, fault_not_stuck}
+use Rattle.pc_rules.proofs.Meters.{after-refl, no_more}
+use Rattle.source_eval.proofs.Ending.{spent_follows, settled, after_node, fault_follows, memory_follows, passed, value_follows, stuck_follows, value_is, stuck_valueless, fault_not_stuck}
 use Rattle.source_eval.proofs.Lefts.{node_left}
 use Rattle.source_eval.proofs.evaluation.run.Goals as goal
 
 pub returns-then-not-tick-clause-follows : goal.returns-then-not-tick-clause-follows
 returns-then-not-tick-clause-follows c =
     spent_follows (evaluation c.args.env.now c.args.t.now c.args.m.now.account) c.args.env.now c.nodes.machine.frames.items c.nodes.next c.args.m.now c.nodes.m c.tick.new.self
-    c.nodes.invariant.leads c.nodes.invariant.after (none_left c.tick.result c.nodes.m.account.left c.tick.ensures.was c.if-not-tick.true) c.tick.ensures.account c.tick.ensures.nest
+    c.nodes.invariant.leads c.nodes.invariant.after (no_more c.tick.result c.nodes.m.account.left c.tick.ensures.was c.if-not-tick.true) c.tick.ensures.account c.tick.ensures.nest
 
 pub returns-in_err-next-clause-follows : goal.returns-in_err-next-clause-follows
 returns-in_err-next-clause-follows c =

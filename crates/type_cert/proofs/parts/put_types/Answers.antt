@@ -1,7 +1,8 @@
 use Rattle.std.proofs.Common.{◌∙◌, ◌<◌, length, sym, arith}
 use Rattle.type_cert.proofs.Pairing.{types_next, types_end}
-use Rattle.type_cert.proofs.Recursive.{rargs_same, rargs_differ, rargs_other, rargs_end}
+use Rattle.type_cert.proofs.Recursive.{rargs_same, rargs_differ, rargs_end}
 use Rattle.type_cert.proofs.parts.put_types.Goals as goal
+use Rattle.pc_rules.proofs.SameTrees.{rargs_other}
 
 pub returns-then-ds-es-clause-same : goal.returns-then-ds-es-clause-same
 returns-then-ds-es-clause-same c = sym (rargs_other c.args.ds.now c.args.es.now c.if-ds-es.true)

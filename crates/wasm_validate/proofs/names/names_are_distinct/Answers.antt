@@ -1,5 +1,6 @@
 use Rattle.std.proofs.Common.{◌≡◌, ◌∙◌, Bool, true, false, not, sym, refl}
-use Rattle.wasm_validate.proofs.Reading.{false_is_true, here}
+use Rattle.std.proofs.lemmas.Bool.{false≢true}
+use Rattle.wasm_validate.proofs.Reading.{here}
 use Rattle.wasm_validate.proofs.Naming.{listed_more, listed_twice, listed_all}
 use Rattle.wasm_validate.proofs.names.names_are_distinct.Goals as goal
 
@@ -19,7 +20,7 @@ loop-at-preserved c =
 pub returns-then-not-added : goal.returns-then-not-added
 returns-then-not-added c =
     let e = here c.args.exports.now c.loop-at.at c.index-exports-at.result c.index-exports-at.is c.loop-at-test.true in
-    record { is = (λ t. false_is_true t, λ d. absurd (listed_twice c.args.exports.now c.loop-at.at c.loop-at.before c.index-exports-at.result c.as_slice.result c.loop-at.invariant e c.as_slice.ensures.items (not_false _ (sym c.if-not-added.true ∙ c.in_ok-added.ensures.added)) d)) }
+    record { is = (λ t. absurd (false≢true t), λ d. absurd (listed_twice c.args.exports.now c.loop-at.at c.loop-at.before c.index-exports-at.result c.as_slice.result c.loop-at.invariant e c.as_slice.ensures.items (not_false _ (sym c.if-not-added.true ∙ c.in_ok-added.ensures.added)) d)) }
 
 pub returns : goal.returns
 returns c = record { is = (λ t. listed_all c.args.exports.now c.loop-at.at c.loop-at.before c.loop-at.invariant c.loop-at-test.false, λ d. refl) }

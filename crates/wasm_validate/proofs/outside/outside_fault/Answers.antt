@@ -1,6 +1,6 @@
 use Rattle.std.proofs.Common.{◌∙◌, refl, sym, subst, arith}
+use Rattle.std.proofs.lemmas.Bool.{false≢true}
 use Rattle.wasm_core.specs.ModuleTyping.{DistinctNames, Functions, Tables, Memories, Globals, Exported, Elements}
-use Rattle.wasm_validate.proofs.Reading.{false_is_true}
 use Rattle.wasm_validate.proofs.Sections.{sound_before, too_late, failed, passed}
 use Rattle.wasm_validate.proofs.outside.outside_fault.Goals as goal
 
@@ -55,7 +55,7 @@ returns-then-not-branch c =
       is = (
         Exported,
         refl,
-        λ s. false_is_true (sym c.if-not-branch.true ∙ c.in_ok-names_are_distinct.ensures.is.1 (subst DistinctNames (sym e) s.0)),
+        λ s. false≢true (sym c.if-not-branch.true ∙ c.in_ok-names_are_distinct.ensures.is.1 (subst DistinctNames (sym e) s.0)),
         sound_before c.args.m.now 7 (λ lt. passed c.if-not-types_are_there.ensures.is)
             (λ lt. passed c.if-not-table_is_sound.ensures.is) (λ lt. passed c.if-not-memory_is_sound.ensures.is) (λ lt. passed c.if-not-globals_are_sound.ensures.is) (too_late 7 7 (omega arith)) (too_late 9 7 (omega arith)) (too_late 10 7 (omega arith)),
       );

@@ -1,8 +1,7 @@
 use Rattle.std.proofs.Common.{rules, arith, ◌≡◌, ◌∙◌, sym, ap, ◌<◌, ◌≤◌, ◌-◌, ◌+◌, true, false, suc, min, length, List, ◌∷◌}
-use Rattle.pc_terms.specs.Syntax.{Term}
+use Rattle.pc_terms.specs.Syntax.{Term, list_of}
 use Rattle.calculus_rules.specs.declared.entry.Entry.TheVariants.{Assumed}
 use Rattle.calculus_rules.specs.Context.{extend}
-use Rattle.calculus_rules.specs.Listed.{list_of}
 use Rattle.pc_rules.specs.DirectedComparison.{lifted_types, each_equal}
 use Rattle.pc_rules.specs.DirectedRun.{run_all}
 use Rattle.calculus_rules.specs.Environment.{with_parameters}

@@ -1,11 +1,11 @@
 use Rattle.std.proofs.Common.{◌≡◌, ◌+◌, ◌*◌, Result, drop}
 use Rattle.pc_terms.specs.Lists.{arms_of}
+use Rattle.pc_terms.specs.Syntax.{list_of}
 use Rattle.pc_rules.specs.declared.meter.Meter.{Meter}
 use Rattle.pc_rules.specs.declared.stop.Halt.{Halt}
 use Rattle.pc_rules.specs.Entailment.{test_of}
 use Rattle.pc_rules.specs.Follows.{Follows}
 use Rattle.pc_rules.specs.DirectedRun.{run_all}
-use Rattle.calculus_rules.specs.Listed.{list_of}
 use Rattle.pc_rules.specs.DirectedComparison.{compare, each_equal, branches_equal}
 use Rattle.conversion.proofs.comparison.Compare.+compare.Given as goal
 

@@ -2,9 +2,10 @@ use Rattle.std.proofs.Common.{Some, ◌≡◌, ◌≤◌, ◌<◌, ◌+◌, refl
 use Rattle.std.proofs.Math.Seq.{take_all}
 use Rattle.driver.specs.ReportLines.{lines}
 use Rattle.driver.proofs.LineByLine.{lines_more, lines_split}
-use Rattle.driver.proofs.PartByPart.{appends_as, appends_both, appends_none, line_cut, line_then, takes_as, tells_same}
+use Rattle.driver.proofs.PartByPart.{appends_as, appends_none, line_cut, line_then, takes_as, tells_same}
 use Rattle.driver.proofs.reporting.lines.write_lines.Goals as goal
 use Rattle.kio.proofs.Bytes.{tells-again}
+use Rattle.dump_printer.proofs.Written.{appends_both}
 
 pub loop-report-init : goal.loop-report-init
 loop-report-init g c = record { gone = appends_none _; history = appends_none (Some _); tells = tells_same _; later = omega arith; still = λ e. refl }

@@ -1,8 +1,9 @@
 use Rattle.std.proofs.Common.{◌++◌, Some}
 use Rattle.std.proofs.lemmas.Result.{on_ok_weaker}
-use Rattle.driver.proofs.PartByPart.{appends_both, err_anyway, fault_later, line_ends, line_stops, line_then, part_by_history, rose_later}
+use Rattle.driver.proofs.PartByPart.{err_anyway, fault_later, line_ends, line_stops, line_then, part_by_history, rose_later}
 use Rattle.driver.proofs.reporting.parts.write_parts.Goals as goal
 use Rattle.kio.proofs.Bytes.{tells-again}
+use Rattle.dump_printer.proofs.Written.{appends_both}
 
 pub returns-in_err-write_all-clause-line : goal.returns-in_err-write_all-clause-line
 returns-in_err-write_all-clause-line g c =

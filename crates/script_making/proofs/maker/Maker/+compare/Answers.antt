@@ -1,11 +1,10 @@
 use Rattle.std.proofs.Common.{rules, arith, ◌≡◌, ◌∙◌, sym, ap, ◌<◌, ◌≤◌, ◌-◌, ◌+◌, true, false, suc, min, length, List, ◌∷◌, refl}
-use Rattle.pc_terms.specs.Syntax.{Term, args}
+use Rattle.pc_terms.specs.Syntax.{Term, args, list_of}
 use Rattle.pc_terms.specs.Lists.{types_of, bodies_of}
 use Rattle.calculus_rules.specs.declared.entry.Entry.TheVariants.{Assumed}
 use Rattle.calculus_rules.specs.Context.{extend}
 use Rattle.calculus_rules.specs.Environment.{with_parameters}
 use Rattle.calculus_rules.specs.Instances.{predicate_entries, branch_entries}
-use Rattle.calculus_rules.specs.Listed.{list_of}
 use Rattle.calculus_rules.specs.Same.{same}
 use Rattle.pc_rules.specs.DirectedComparison.{lifted_types}
 use Rattle.pc_rules.specs.Entailment.{test_of}

@@ -1,6 +1,6 @@
 use Rattle.std.proofs.Common.{◌≡◌, ◌+◌, ◌*◌, Result, drop}
 use Rattle.pc_terms.specs.Lists.{arms_of}
-use Rattle.calculus_rules.specs.Listed.{list_of}
+use Rattle.pc_terms.specs.Syntax.{list_of}
 use Rattle.pc_rules.specs.declared.stop.Halt.{Halt}
 use Rattle.cert_rules.specs.Writing.{write_all}
 use Rattle.cert_rules.specs.MakingTyping.{make_each, make_branches_equal}

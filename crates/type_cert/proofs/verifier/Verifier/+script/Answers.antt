@@ -6,6 +6,7 @@ use Rattle.pc_rules.specs.Entailment.{test_of}
 use Rattle.pc_rules.specs.WellCounted.{IsCounted}
 use Rattle.type_cert.specs.Pairs.{AreCountedParts}
 use Rattle.pc_rules.proofs.Meters.{after-trans}
+use Rattle.conversion.specs.Modes.{is_equal}
 use Rattle.cert_rules.specs.declared.item.CertItem.TheVariants.{Same, Left, Right}
 use Rattle.type_cert.specs.Going.{going}
 use Rattle.type_cert.proofs.Retracing.{retraces_on, retraces_err, retraces_passed}
@@ -40,25 +41,25 @@ pub item-returns-in_err-left-in-Some-Left : goal.item-returns-in_err-left-in-Som
 item-returns-in_err-left-in-Some-Left t c =
     let v = c.args.self.now in
     let e : slice_get v.cert.now c.args.trail.now.at ≡ Some (Left c.in-Some-Left.n) = sym c.item_at.ensures.is ∙ c.in-Some-Left.is ∙ ap (λ x. Some x) c.in-Some-Left.field-0-is in
-    record { retraces = rw e (retraces_passed c.from_residual.ensures.1 (retraces_is (left_item v.env.now (test_of v.env.now) (going v) (values c.args.ctx.now) c.args.equal c.args.a.now c.args.b.now c.args.trail.now c.in-Some-Left.n) (retraces_err _ c.in_err-left-in-Some-Left.ensures.retraces))) }
+    record { retraces = rw e (retraces_passed c.from_residual.ensures.1 (retraces_is (left_item v.env.now (test_of v.env.now) (going v) (values c.args.ctx.now) (is_equal c.args.mode) c.args.a.now c.args.b.now c.args.trail.now c.in-Some-Left.n) (retraces_err _ c.in_err-left-in-Some-Left.ensures.retraces))) }
 
 pub item-returns-in_ok-left-in-Some-Left : goal.item-returns-in_ok-left-in-Some-Left
 item-returns-in_ok-left-in-Some-Left t c =
     let v = c.args.self.now in
     let e : slice_get v.cert.now c.args.trail.now.at ≡ Some (Left c.in-Some-Left.n) = sym c.item_at.ensures.is ∙ c.in-Some-Left.is ∙ ap (λ x. Some x) c.in-Some-Left.field-0-is in
-    record { retraces = rw e (retraces_is (left_item v.env.now (test_of v.env.now) (going v) (values c.args.ctx.now) c.args.equal c.args.a.now c.args.b.now c.args.trail.now c.in-Some-Left.n) (retraces_on _ c.in_ok-left-in-Some-Left.ensures.retraces c.terms_script.ensures.retraces)) }
+    record { retraces = rw e (retraces_is (left_item v.env.now (test_of v.env.now) (going v) (values c.args.ctx.now) (is_equal c.args.mode) c.args.a.now c.args.b.now c.args.trail.now c.in-Some-Left.n) (retraces_on _ c.in_ok-left-in-Some-Left.ensures.retraces c.terms_script.ensures.retraces)) }
 
 pub item-returns-in_err-right-in-Some-Right : goal.item-returns-in_err-right-in-Some-Right
 item-returns-in_err-right-in-Some-Right t c =
     let v = c.args.self.now in
     let e : slice_get v.cert.now c.args.trail.now.at ≡ Some (Right c.in-Some-Right.n) = sym c.item_at.ensures.is ∙ c.in-Some-Right.is ∙ ap (λ x. Some x) c.in-Some-Right.field-0-is in
-    record { retraces = rw e (retraces_passed c.from_residual-in_err-right-in-Some-Right.ensures.1 (retraces_is (right_item v.env.now (test_of v.env.now) (going v) (values c.args.ctx.now) c.args.equal c.args.a.now c.args.b.now c.args.trail.now c.in-Some-Right.n) (retraces_err _ c.in_err-right-in-Some-Right.ensures.retraces))) }
+    record { retraces = rw e (retraces_passed c.from_residual-in_err-right-in-Some-Right.ensures.1 (retraces_is (right_item v.env.now (test_of v.env.now) (going v) (values c.args.ctx.now) (is_equal c.args.mode) c.args.a.now c.args.b.now c.args.trail.now c.in-Some-Right.n) (retraces_err _ c.in_err-right-in-Some-Right.ensures.retraces))) }
 
 pub item-returns-in_ok-right-in-Some-Right : goal.item-returns-in_ok-right-in-Some-Right
 item-returns-in_ok-right-in-Some-Right t c =
     let v = c.args.self.now in
     let e : slice_get v.cert.now c.args.trail.now.at ≡ Some (Right c.in-Some-Right.n) = sym c.item_at.ensures.is ∙ c.in-Some-Right.is ∙ ap (λ x. Some x) c.in-Some-Right.field-0-is in
-    record { retraces = rw e (retraces_is (right_item v.env.now (test_of v.env.now) (going v) (values c.args.ctx.now) c.args.equal c.args.a.now c.args.b.now c.args.trail.now c.in-Some-Right.n) (retraces_on _ c.in_ok-right-in-Some-Right.ensures.retraces c.terms_script-in-Some-Right.ensures.retraces)) }
+    record { retraces = rw e (retraces_is (right_item v.env.now (test_of v.env.now) (going v) (values c.args.ctx.now) (is_equal c.args.mode) c.args.a.now c.args.b.now c.args.trail.now c.in-Some-Right.n) (retraces_on _ c.in_ok-right-in-Some-Right.ensures.retraces c.terms_script-in-Some-Right.ensures.retraces)) }
 
 pub item-parts_item-requires : goal.item-parts_item-requires
 item-parts_item-requires t c =
@@ -75,21 +76,21 @@ terms_script-returns-then-not-enter t c =
     let z : c.args.self.now.room ≡ 0 = search rules in
     let k : c.enter.new.self.nest ≡ c.args.trail.now.meter.nest = search rules in
     let f = after_same c.args.trail.now.meter c.enter.new.self c.enter.ensures.account k in
-    record { retraces = script_nested c.args.self.now.cert.now c.args.self.now.env.now (test_of c.args.self.now.env.now) (values c.args.ctx.now) c.args.equal c.args.a.now c.args.b.now c.args.self.now.room c.args.trail.now (record { meter = c.enter.new.self; at = c.args.trail.now.at }) z f }
+    record { retraces = script_nested c.args.self.now.cert.now c.args.self.now.env.now (test_of c.args.self.now.env.now) (values c.args.ctx.now) (is_equal c.args.mode) c.args.a.now c.args.b.now c.args.self.now.room c.args.trail.now (record { meter = c.enter.new.self; at = c.args.trail.now.at }) z f }
 
 pub terms_script-returns : goal.terms_script-returns
 terms_script-returns t c =
     let k : c.enter.new.self.nest ≡ c.args.trail.now.meter.nest + 1 = search rules in
     let z : c.args.self.now.room ≡ suc (c.args.self.now.room - 1) = search rules in
     record {
-      retraces = script_entered c.args.self.now.cert.now c.args.self.now.env.now (test_of c.args.self.now.env.now) (values c.args.ctx.now) c.args.equal c.args.a.now c.args.b.now c.args.self.now.room (c.args.self.now.room - 1) _
+      retraces = script_entered c.args.self.now.cert.now c.args.self.now.env.now (test_of c.args.self.now.env.now) (values c.args.ctx.now) (is_equal c.args.mode) c.args.a.now c.args.b.now c.args.self.now.room (c.args.self.now.room - 1) _
           c.args.trail.now (record { meter = c.enter.new.self; at = c.args.trail.now.at }) c.item-answer.new.trail (record { meter = c.leave.new.self; at = c.item-answer.new.trail.at })
           z c.enter.ensures.account k refl c.item-answer.ensures.retraces c.leave.ensures.account c.leave.ensures.nest refl;
     }
 
 pub parts_item-returns-then-former : goal.parts_item-returns-then-former
 parts_item-returns-then-former t c =
-    record { retraces = formers_differ (going c.args.self.now) (values c.args.ctx.now) c.args.equal c.args.a.now c.args.b.now c.args.trail.now (λ e. c.if-former.true (c.former.ensures.is ∙ e ∙ sym c.former-2.ensures.is)) }
+    record { retraces = formers_differ (going c.args.self.now) (values c.args.ctx.now) (is_equal c.args.mode) c.args.a.now c.args.b.now c.args.trail.now (λ e. c.if-former.true (c.former.ensures.is ∙ e ∙ sym c.former-2.ensures.is)) }
 
 pub parts_item-returns : goal.parts_item-returns
 parts_item-returns t c = record { retraces = from_past c.parts.ensures.retraces }
@@ -97,13 +98,13 @@ parts_item-returns t c = record { retraces = from_past c.parts.ensures.retraces 
 pub product-returns-in_err-terms_script : goal.product-returns-in_err-terms_script
 product-returns-in_err-terms_script t c =
     let eb = rw c.in-Prod.is at c.view.ensures.is in
-    record { retraces = λ i. retraces_passed c.from_residual.ensures.1 (rw (← eb) (product_err i (going c.args.self.now) (values c.args.ctx.now) c.args.equal c.args.domain.now c.args.codomain.now c.in-Prod.other c.in-Prod.target c.args.trail.now _ _ c.in_err-terms_script.ensures.retraces)) }
+    record { retraces = λ i. retraces_passed c.from_residual.ensures.1 (rw (← eb) (product_err i (going c.args.self.now) (values c.args.ctx.now) (is_equal c.args.mode) c.args.domain.now c.args.codomain.now c.in-Prod.other c.in-Prod.target c.args.trail.now _ _ c.in_err-terms_script.ensures.retraces)) }
 
 pub product-returns : goal.product-returns
 product-returns t c =
     let eb = rw c.in-Prod.is at c.view.ensures.is in
     let u = values_under c.args.ctx.now c.in_ok-under.under _ _ c.in_ok-under.ensures.longer c.in_ok-share.ensures.ok in
-    record { retraces = λ i. rw (← eb) (product_go i (going c.args.self.now) (values c.args.ctx.now) c.args.equal c.args.domain.now c.args.codomain.now c.in-Prod.other c.in-Prod.target c.args.trail.now _ _ _ c.in_ok-terms_script.ensures.retraces _ u c.terms_script-2.ensures.retraces) }
+    record { retraces = λ i. rw (← eb) (product_go i (going c.args.self.now) (values c.args.ctx.now) (is_equal c.args.mode) c.args.domain.now c.args.codomain.now c.in-Prod.other c.in-Prod.target c.args.trail.now _ _ _ c.in_ok-terms_script.ensures.retraces _ u c.terms_script-2.ensures.retraces) }
 
 pub lambda-returns-in_err-terms_script : goal.lambda-returns-in_err-terms_script
 lambda-returns-in_err-terms_script t c =
@@ -132,7 +133,7 @@ definition-returns-in_err-terms_script t c =
     record { retraces = λ i equal. retraces_passed c.from_residual.ensures.1 (rw (← eb) (let_first i (going c.args.self.now) (values c.args.ctx.now) equal c.args.value.now c.args.ty.now c.args.body.now c.in-LetIn.other c.in-LetIn.kind c.in-LetIn.target c.args.trail.now _ _ c.in_err-terms_script.ensures.retraces)) }
 
 pub parts-returns-in_default : goal.parts-returns-in_default
-parts-returns-in_default t c = record { retraces = rw c.leaf.ensures.is (leaves c.args.at (going c.args.self.now) (values c.args.ctx.now) c.args.equal c.args.trail.now c.args.a.now c.args.b.now (search rules) c.requires.number) }
+parts-returns-in_default t c = record { retraces = rw c.leaf.ensures.is (leaves c.args.at (going c.args.self.now) (values c.args.ctx.now) (is_equal c.args.mode) c.args.trail.now c.args.a.now c.args.b.now (search rules) c.requires.number) }
 
 -- each part of a list
 
@@ -175,28 +176,28 @@ parts-returns-in-Prod t c =
 pub parts-returns-in-Lambda : goal.parts-returns-in-Lambda
 parts-returns-in-Lambda t c =
     let ea = rw c.in-Lambda.is at c.view.ensures.is in
-    record { retraces = rw (← ea) (c.lambda.ensures.retraces c.args.at c.args.equal) }
+    record { retraces = rw (← ea) (c.lambda.ensures.retraces c.args.at (is_equal c.args.mode)) }
 
 pub parts-returns-in-LetIn : goal.parts-returns-in-LetIn
 parts-returns-in-LetIn t c =
     let ea = rw c.in-LetIn.is at c.view.ensures.is in
-    record { retraces = rw (← ea) (c.definition.ensures.retraces c.args.at c.args.equal) }
+    record { retraces = rw (← ea) (c.definition.ensures.retraces c.args.at (is_equal c.args.mode)) }
 
 pub parts-returns-in-App : goal.parts-returns-in-App
 parts-returns-in-App t c =
     let ea = rw c.in-App.is at c.view.ensures.is in
-    record { retraces = rw (← ea) (c.application.ensures.retraces c.args.at c.args.equal) }
+    record { retraces = rw (← ea) (c.application.ensures.retraces c.args.at (is_equal c.args.mode)) }
 
 pub parts-returns-in-Case : goal.parts-returns-in-Case
 parts-returns-in-Case t c =
     let ea = rw c.in-Case.is at c.view.ensures.is in
     let eg : tree_of (Case c.get.result.now) ≡ c.args.a.now = ap (λ m. tree_of (Case m)) c.get.ensures.is ∙ ea in
-    record { retraces = rw (← eg) (c.matches.ensures.retraces c.args.equal) }
+    record { retraces = rw (← eg) (c.matches.ensures.retraces (is_equal c.args.mode)) }
 
 pub parts-returns-in-Fix : goal.parts-returns-in-Fix
 parts-returns-in-Fix t c =
     let ea = rw c.in-Fix.is at c.view.ensures.is in
-    record { retraces = rw (← ea) (c.fixpoints.ensures.retraces c.args.equal) }
+    record { retraces = rw (← ea) (c.fixpoints.ensures.retraces (is_equal c.args.mode)) }
 
 pub definition-returns-in_err-terms_script-2 : goal.definition-returns-in_err-terms_script-2
 definition-returns-in_err-terms_script-2 t c =

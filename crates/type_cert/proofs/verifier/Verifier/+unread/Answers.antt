@@ -8,6 +8,7 @@ use Rattle.cert_rules.specs.declared.item.CertItem.TheVariants.{Same, Left, Righ
 use Rattle.reduce_machine.specs.Reads.{stands_under}
 use Rattle.reduce_machine.specs.Seen.{argument_term, seen_term}
 use Rattle.reduce_machine.specs.Values.{term_of}
+use Rattle.conversion.specs.Modes.{is_equal}
 use Rattle.lazy_conversion.specs.Parts.{read_part}
 use Rattle.lazy_conversion.specs.Stuck.{match_of, match_term, defs_of}
 use Rattle.lazy_conversion.proofs.Comparables.{mapped_at, mapped_within}
@@ -24,7 +25,7 @@ unread-returns t c =
     let v = c.args.self.now in
     let z : v.room ≡ suc (v.room - 1) = search rules in
     record {
-      passes = λ h. script_passes v.cert.now v.env.now (test_of v.env.now) (values c.args.ctx.now) c.args.equal (argument_term c.args.a) (argument_term c.args.b) v.room (v.room - 1) c.args.pace.now c.unread_item.new.pace z (c.unread_item.ensures.passes h);
+      passes = λ h. script_passes v.cert.now v.env.now (test_of v.env.now) (values c.args.ctx.now) (is_equal c.args.mode) (argument_term c.args.a) (argument_term c.args.b) v.room (v.room - 1) c.args.pace.now c.unread_item.new.pace z (c.unread_item.ensures.passes h);
     }
 
 -- applications
@@ -67,7 +68,7 @@ unread_binders-returns t c =
     record {
       passes = λ h.
           let g = rw c.in-Ok.ensures.longer at c.unread_part-2.ensures.passes h in
-          then_passes (going c.args.self.now V true (read_part c.args.f.domain) (read_part c.args.g.domain)) (going c.args.self.now (None ∷ V) c.args.equal (read_part c.args.f.body) (read_part c.args.g.body) ∷ [])
+          then_passes (going c.args.self.now V true (read_part c.args.f.domain) (read_part c.args.g.domain)) (going c.args.self.now (None ∷ V) (is_equal c.args.mode) (read_part c.args.f.body) (read_part c.args.g.body) ∷ [])
           c.args.pace.now c.unread_part.new.pace c.unread_part-2.new.pace (c.if-not-unread_part.ensures.passes refl) (one_passes _ _ _ g);
     }
 
@@ -163,7 +164,7 @@ unread_spines-returns t c =
 -- parts
 
 pub unread_part-returns-in-Some-Same : goal.unread_part-returns-in-Some-Same
-unread_part-returns-in-Some-Same t c = record { passes = λ h. c.same_part.ensures.passes h (values c.args.ctx.now) c.args.equal }
+unread_part-returns-in-Some-Same t c = record { passes = λ h. c.same_part.ensures.passes h (values c.args.ctx.now) (is_equal c.args.mode) }
 
 -- items
 
@@ -172,7 +173,7 @@ unread_item-returns-in-Some-Same t c =
     let v = c.args.self.now in
     let e : slice_get v.cert.now c.args.pace.now.at ≡ Some Same = sym c.next_item.ensures.is ∙ c.in-Some-Same.is ∙ ap (λ x. Some x) c.in-Some-Same.field-0-is in
     record {
-      passes = λ h. same_item v.env.now (test_of v.env.now) (going v) (values c.args.ctx.now) c.args.equal (argument_term c.args.a) (argument_term c.args.b) (slice_get v.cert.now c.args.pace.now.at) c.args.pace.now c.next_item.new.pace e
+      passes = λ h. same_item v.env.now (test_of v.env.now) (going v) (values c.args.ctx.now) (is_equal c.args.mode) (argument_term c.args.a) (argument_term c.args.b) (slice_get v.cert.now c.args.pace.now.at) c.args.pace.now c.next_item.new.pace e
           c.in-Some-Same.ensures.further (c.are_same.ensures.same h);
     }
 
@@ -181,7 +182,7 @@ unread_item-returns-in-Some-Parts t c =
     let v = c.args.self.now in
     let e : slice_get v.cert.now c.args.pace.now.at ≡ Some Parts = sym c.next_item.ensures.is ∙ c.in-Some-Parts.is ∙ ap (λ x. Some x) c.in-Some-Parts.field-0-is in
     record {
-      passes = λ h. parts_item v.env.now (test_of v.env.now) (going v) (values c.args.ctx.now) c.args.equal (argument_term c.args.a) (argument_term c.args.b) (slice_get v.cert.now c.args.pace.now.at) c.args.pace.now c.next_item.new.pace c.unread_parts.new.pace e
+      passes = λ h. parts_item v.env.now (test_of v.env.now) (going v) (values c.args.ctx.now) (is_equal c.args.mode) (argument_term c.args.a) (argument_term c.args.b) (slice_get v.cert.now c.args.pace.now.at) c.args.pace.now c.next_item.new.pace c.unread_parts.new.pace e
           c.in-Some-Parts.ensures.further (c.unread_parts.ensures.passes h);
     }
 
@@ -190,9 +191,9 @@ unread_item-returns-in-Some t c =
     let v = c.args.self.now in
     let e : slice_get v.cert.now c.args.pace.now.at ≡ Some (Left c.in-Some-Left.n) = sym c.next_item.ensures.is ∙ c.in-Some-Left.is ∙ ap (λ x. Some x) c.in-Some-Left.field-0-is in
     record {
-      passes = λ h. left_item v.env.now (test_of v.env.now) (going v) (values c.args.ctx.now) c.args.equal (argument_term c.args.a) (argument_term c.args.b) (slice_get v.cert.now c.args.pace.now.at) c.in-Some-Left.n (term_of c.in-Some.left)
+      passes = λ h. left_item v.env.now (test_of v.env.now) (going v) (values c.args.ctx.now) (is_equal c.args.mode) (argument_term c.args.a) (argument_term c.args.b) (slice_get v.cert.now c.args.pace.now.at) c.in-Some-Left.n (term_of c.in-Some.left)
           c.args.pace.now c.next_item.new.pace c.stepped_value.new.pace c.unread.new.pace e c.in-Some.ensures.some c.in-Some-Left.ensures.further c.in-Some.ensures.walks c.in-Some.ensures.less
-          (subst (λ x. Passes (going v (values c.args.ctx.now) c.args.equal x (argument_term c.args.b)) c.stepped_value.new.pace c.unread.new.pace) c.seen.ensures.term (c.unread.ensures.passes h));
+          (subst (λ x. Passes (going v (values c.args.ctx.now) (is_equal c.args.mode) x (argument_term c.args.b)) c.stepped_value.new.pace c.unread.new.pace) c.seen.ensures.term (c.unread.ensures.passes h));
     }
 
 pub unread_item-returns-in-Some-stepped_value : goal.unread_item-returns-in-Some-stepped_value
@@ -200,7 +201,7 @@ unread_item-returns-in-Some-stepped_value t c =
     let v = c.args.self.now in
     let e : slice_get v.cert.now c.args.pace.now.at ≡ Some (Right c.in-Some-Right.n) = sym c.next_item.ensures.is ∙ c.in-Some-Right.is ∙ ap (λ x. Some x) c.in-Some-Right.field-0-is in
     record {
-      passes = λ h. right_item v.env.now (test_of v.env.now) (going v) (values c.args.ctx.now) c.args.equal (argument_term c.args.a) (argument_term c.args.b) (slice_get v.cert.now c.args.pace.now.at) c.in-Some-Right.n (term_of c.in-Some-stepped_value.right)
+      passes = λ h. right_item v.env.now (test_of v.env.now) (going v) (values c.args.ctx.now) (is_equal c.args.mode) (argument_term c.args.a) (argument_term c.args.b) (slice_get v.cert.now c.args.pace.now.at) c.in-Some-Right.n (term_of c.in-Some-stepped_value.right)
           c.args.pace.now c.next_item.new.pace c.stepped_value-in-Some-Right.new.pace c.unread-in-Some-Right.new.pace e c.in-Some-stepped_value.ensures.some c.in-Some-Right.ensures.further c.in-Some-stepped_value.ensures.walks c.in-Some-stepped_value.ensures.less
-          (subst (λ x. Passes (going v (values c.args.ctx.now) c.args.equal (argument_term c.args.a) x) c.stepped_value-in-Some-Right.new.pace c.unread-in-Some-Right.new.pace) c.seen-in-Some-Right.ensures.term (c.unread-in-Some-Right.ensures.passes h));
+          (subst (λ x. Passes (going v (values c.args.ctx.now) (is_equal c.args.mode) (argument_term c.args.a) x) c.stepped_value-in-Some-Right.new.pace c.unread-in-Some-Right.new.pace) c.seen-in-Some-Right.ensures.term (c.unread-in-Some-Right.ensures.passes h));
     }

@@ -5,13 +5,12 @@ use Rattle.pc_rules.specs.declared.stop.Halt.{Halt}
 use Rattle.pc_rules.specs.Entailment.{test_of}
 use Rattle.pc_rules.specs.Follows.{Follows}
 use Rattle.calculus_rules.specs.Instances.{definitions}
-use Rattle.calculus_rules.specs.Listed.{list_of}
 use Rattle.pc_rules.specs.DirectedComparison.{compare}
 use Rattle.pc_rules.specs.DirectedTyping.{infer, types_rule, definitions_rule, check_all, branches_rule}
 use Rattle.type_infer.specs.Ready.{IsReady}
 use Rattle.calculus_rules.specs.Context.{Context, extend}
 use Rattle.type_infer.specs.Entering.{entries_entered}
-use Rattle.pc_terms.specs.Syntax.{Rel, put_all}
+use Rattle.pc_terms.specs.Syntax.{Rel, put_all, list_of}
 use Rattle.pc_rules.specs.WellCounted.{AreCounted}
 use Rattle.known_types.specs.Sites.{Longer}
 use Rattle.type_infer.proofs.inference.Inference.+infer.Given as goal
