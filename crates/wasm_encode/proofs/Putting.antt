@@ -1,6 +1,6 @@
 -- Bytes that are put after others.
 use Rattle.std.proofs.Common.{◌≡◌, ℕ, zero, suc, ◌+◌, ◌-◌, ◌/◌, ◌%◌, ◌<◌, ◌≤◌, List, [], ◌∷◌, ◌++◌, length, Bool, true, false, ◌^◌, ◌⊎◌, inl, inr, ⊎_elim, refl, arith, subst, Result, Ok, Err, append_assoc, append-nil, length-append, drop, add-one, drop-cons, get_or, sym, ap, ◌∙◌}
-use Rattle.std.specs.Prelude.{◌&&◌, nat_lt, nat_le, if◌then◌else◌}
+use Rattle.std.specs.Prelude.{◌&&◌, nat_lt, nat_le}
 use Rattle.std.proofs.lemmas.Bool.{lt-ltb, le-ltb, ltb-false, leb-false, leb-true, lt-leb, le-leb, cases_lt}
 use Rattle.std.proofs.Math.Pow.{pow_mono}
 use Rattle.std.proofs.Math.ListN.{drop_of_length-le}
@@ -108,10 +108,6 @@ all_at P (x ∷ xs) (suc i) d (p, a) h = all_at P xs i d a (omega (arith, h))
 pub sized_passes : (part w : List ℕ) → most_bytes < length part → most_bytes < length (put_sized part w)
 sized_passes part w h = let a = sized_longer part w in omega (arith, h, a)
 
--- what comes after what is put passes the limit, and so does the whole
-pub within : (old new : List ℕ) (f : List ℕ → List ℕ) → Puts old new f → (w : List ℕ) → length w ≤ length (f w)
-within old new f p w = let e = ap length (p.after w) in let a = length-append new w in let b = length-append old (f w) in let g = p.grows in omega (arith, e, a, b, g)
-
 -- ---- sections
 
 pub section_none : {A : Type 0} (id : ℕ) (one : A → List ℕ → List ℕ) (xs : List A) (w : List ℕ) → length xs ≡ 0 → put_section id one xs w ≡ w
@@ -176,19 +172,9 @@ section_fails id one xs faults.ModuleBytes old new before after h p = λ w. sect
 section_fails id one xs faults.Memory old new before after h p = tt
 
 -- one after the other
-pub then_puts : (old mid new : List ℕ) (f g : List ℕ → List ℕ) (r : Result (Unit {0}) EncodeFault) → Puts old mid f → PutsUnless r mid new g → PutsUnless r old new (λ w. f (g w))
-then_puts old mid new f g (Ok x) p q = record { grows = (let a = p.grows in let b = q.grows in omega (arith, a, b)); after = λ w. q.after w ∙ p.after (g w) }
-then_puts old mid new f g (Err faults.ModuleBytes) p q = λ w. (let a = within old mid f p (g w) in let b = q w in omega (arith, a, b))
-then_puts old mid new f g (Err faults.Memory) p q = tt
-
--- where the first fails, the rest doesn't matter
-pub fails_first : (old new out : List ℕ) (f g : List ℕ → List ℕ) (e : EncodeFault) → PutsUnless (Err e) old new f → PutsUnless (Err e) old out (λ w. f (g w))
-fails_first old new out f g faults.ModuleBytes p = λ w. p (g w)
-fails_first old new out f g faults.Memory p = tt
-
-pub puts_at : {A : Type 0} (id : ℕ) (one : A → List ℕ → List ℕ) (xs ys : List A) (r : Result (Unit {0}) EncodeFault) (old new : List ℕ) → xs ≡ ys → PutsUnless r old new (put_section id one xs) → PutsUnless r old new (put_section id one ys)
-puts_at id one xs ys r old new e p = subst (λ xs. PutsUnless r old new (put_section id one xs)) e p
+pub then_puts : (old mid new : List ℕ) (f g : List ℕ → List ℕ) → Puts old mid f → Puts mid new g → Puts old new (λ w. f (g w))
+then_puts old mid new f g p q = record { grows = (let a = p.grows in let b = q.grows in omega (arith, a, b)); after = λ w. q.after w ∙ p.after (g w) }
 
 pub module_put : (m : Parts) (old mid new : List ℕ) → old ≡ [] → Puts old mid put_header → Puts mid new (put_sections m) → new ≡ module_bytes m
 unfolding module_bytes
-module_put m old mid new e p q = from_nothing old new (λ w. put_header (put_sections m w)) e (then_puts old mid new put_header (put_sections m) (Ok tt) p q)
+module_put m old mid new e p q = from_nothing old new (λ w. put_header (put_sections m w)) e (then_puts old mid new put_header (put_sections m) p q)

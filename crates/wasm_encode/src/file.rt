@@ -7,6 +7,7 @@ ghost use Rattle.wasm_encode.specs.Puts.{Puts, PutsUnless, FirstBelow};
 ghost use Rattle.wasm_core.specs.ModuleGrammar.{SpellsModule};
 ghost use Rattle.wasm_core.specs.Parts.{Parts};
 ghost use Rattle.wasm_core.specs.ShortestBytes.{Writes};
+ghost use Rattle.wasm_encode.specs.Sections.{section_at};
 ghost use Rattle.wasm_encode.specs.Shortest.{NoneIsShorter};
 
 use crate::bodies::{MOST_BYTES, put_bodies, put_part};
@@ -169,19 +170,33 @@ fn put_header(out: &mut Vec<u8>) -> Result<(), AllocError>
     put(out, 0x00)
 }
 
+/// Puts the section with this index in a module's order, the first 0, where it has entries.
+fn put_section_at(alloc: Global, out: &mut Vec<u8>, m: &Module, at: u32) -> Result<(), EncodeFault>
+    requires below { at < 8 }
+    ensures puts { PutsUnless result out.old.items out.new.items (section_at m.now at) }
+{
+    m.spelled();
+    match at {
+        0 => put_type_section(alloc, out, m.types().as_slice()),
+        1 => put_function_section(alloc, out, m.funcs().as_slice()),
+        2 => put_table_section(alloc, out, m.table()),
+        3 => put_memory_section(alloc, out, m.memory()),
+        4 => put_global_section(alloc, out, m.globals().as_slice()),
+        5 => put_export_section(alloc, out, m.exports().as_slice()),
+        6 => put_element_section(alloc, out, m.elements().as_slice()),
+        _ => put_code_section(alloc, out, m.bodies().as_slice()),
+    }
+}
+
 /// Puts the sections of a module.
+#[tactic(auto, using(crate::proofs::Putting::all_over, crate::proofs::Sections::all_sections))]
 fn put_sections(alloc: Global, out: &mut Vec<u8>, m: &Module) -> Result<(), EncodeFault>
     ensures puts { PutsUnless result out.old.items out.new.items (shortest.put_sections m.now) }
 {
-    m.spelled();
-    put_type_section(alloc, out, m.types().as_slice())?;
-    put_function_section(alloc, out, m.funcs().as_slice())?;
-    put_table_section(alloc, out, m.table())?;
-    put_memory_section(alloc, out, m.memory())?;
-    put_global_section(alloc, out, m.globals().as_slice())?;
-    put_export_section(alloc, out, m.exports().as_slice())?;
-    put_element_section(alloc, out, m.elements().as_slice())?;
-    put_code_section(alloc, out, m.bodies().as_slice())
+    for at in 0..8 {
+        put_section_at(alloc, out, m, at)?;
+    }
+    Ok(())
 }
 
 /// The shortest bytes of a module.
