@@ -2,7 +2,7 @@ use Rattle.std.proofs.Common.{rules, arith, ◌≡◌, ◌<◌, ◌≤◌, ◌+�
 use Rattle.std.proofs.lemmas.Grind.{common_steps}
 use Rattle.std.proofs.lemmas.Result.{IfOk-weaker}
 use Rattle.std.specs.Prelude.{slice_set}
-use Rattle.anf_convert.specs.Anf.{block_of, tail_of, def_count}
+use Rattle.anf_convert.specs.Anf.{LamOp, block_of, tail_of, def_count}
 use Rattle.anf_convert.specs.AnfView.{seen as seen_anf, bindings_of, branches_of, defs_of}
 use Rattle.anf_convert.specs.AnfWeight.{binding_weight, block_weight, branches_weight, defs_weight}
 use Rattle.anf_convert.specs.Captured.{Plain, plains, lam_captured, fix_captured}
@@ -12,7 +12,7 @@ use Rattle.closure_lift.specs.Lifted as lifted
 use Rattle.closure_lift.specs.LiftedView.{seen, bounds_of, functions_of}
 use Rattle.closure_lift.specs.FreeVariables.{size, notes_defs}
 use Rattle.closure_lift.specs.Lifting.{Stand, PlacesFor, function_with, definitions, blanks, most_words}
-use Rattle.closure_lift.specs.CapturedLimit.{BlockCaptures, BranchesCapture, DefsCapture}
+use Rattle.closure_lift.specs.CapturedLimit.{OpCaptures, BlockCaptures, BranchesCapture, DefsCapture}
 use Rattle.closure_lift.proofs.Going.{block_ends, frame_left, variables_left, defs_start, functions_more}
 use Rattle.closure_lift.proofs.Lighter.{op_lighter, tail_lighter, arm_lighter, def_weight, def_lighter}
 use Rattle.closure_lift.proofs.Steps.{captures_back}
@@ -48,7 +48,7 @@ lift_lambda-returns-clause-captures t c =
     let g : c.len-at.result ≡ length fs0 = search rules in
     let ew : c.in_ok-words.words ≡ lam_captured v.0 c.args.body.now =
     c.in_ok-words.ensures.is ∙ lam_words c.args.notes.now v.0 v.1 c.args.body.now fs0 c.requires.notes c.len-at.result g in
-    let told = (subst (λ ws. length ws < most_words) ew c.in_ok-words.ensures.few, c.in_ok-lifted.ensures.captures) in
+    let told : OpCaptures most_words v.0 (LamOp c.args.body.now) = (subst (λ ws. length ws < most_words) ew c.in_ok-words.ensures.few, c.in_ok-lifted.ensures.captures) in
     IfOk-weaker c.closure_of.result _ _ (λ _ _. told) c.closure_of.ensures.is
 
 pub lift_lambda-returns-clause-functions : goal.lift_lambda-returns-clause-functions
