@@ -1,5 +1,6 @@
 -- The laws of all passes together, for all programs of the form.
 use Rattle.std.proofs.Common.{ℕ, ◌+◌, ◌*◌, ◌≤◌, List, length, sym, subst, arith}
+use Rattle.trees.specs.Measures.{depth_limit}
 use Rattle.lambda_box.specs.BoxProgram.{BoxFamily, BoxProgram, Has}
 use Rattle.lambda_box.specs.BoxData.{Data as Nodes}
 use Rattle.lambda_box.specs.DataTerms.{greatest_words}
