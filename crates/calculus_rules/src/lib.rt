@@ -3,7 +3,7 @@
 //!
 //! In the order in which they stand on each other: `specs/Environment.antt` (what is kept), `Lookups`, `Context`, `Instances` (types and entries formed from declarations), `Step` (reduction),
 //! `Conversion` (equality and cumulativity), `Elimination`, `Naming` (which terms name a block or a parameter of one), `Guardedness`, `Typing` (rules 1 to 12, guarded and bare), `Positivity`, `Accepted`
-//! (well-formed environments), `WeakHead`, `Evaluation`, `Erasable`, `FirstOrder` (first-order types and data) and `Lawful`. `Same` (whether two terms are one tree) and `Listed` are tests and lists that they use.
+//! (well-formed environments), `WeakHead`, `Evaluation`, `Erasable`, `FirstOrder` (first-order types and data) and `Lawful`. `Same` (whether two terms are one tree) and `PropSorts` (whether a sort is Prop) are tests, and `Laws` is what is promised of all these.
 //!
 //! The types that they speak of are those of the code: `declaration` has constructors, families, blocks and what is kept, `entry` the entries of a context, `target` what positivity is asked for, `evidence`
 //! why a term is erasable.
