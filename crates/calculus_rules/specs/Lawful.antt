@@ -1,4 +1,4 @@
--- Lawful evaluation: what the erasure theorems ask of the nodes of one evaluation. It is no premise on a program: that each evaluation of a
+-- Lawful evaluation: what the simulation by erased programs goes by at the nodes of one evaluation. It is no premise: that each evaluation of a
 -- typed closed term is lawful in an accepted environment is proved of bare types, with subject reduction and canonicity, in `type_laws`
 -- (`evaluations_are_lawful`). All typing is meant of bare types in the empty context.
 use Rattle.std.specs.Prelude.{ℕ, ◌≡◌, ◌≢◌, List, [], Some, slice_get}

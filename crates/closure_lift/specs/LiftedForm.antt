@@ -32,7 +32,8 @@ module _ (fs : List Fn) (k m : ℕ) where
     BranchesFit n NoBranch = Unit {0}
     BranchesFit n (Branch j t rest) = (j < fields) × LiftedBlockFits (j + n) t × BranchesFit n rest
 
--- what emission asks for: fewer captured words than a block has fields, and not too many functions; lifting refuses a program earlier, by 1,000 words
+-- what emission asks for: fewer captured words than a block has fields, and not too many functions; lifting refuses a program earlier: one
+-- with over 1,000 words, or with too many constants and functions together
 pub record Limits (P : Program) : Type 0 where
   pub captured : (g : ℕ) (fn : Fn) → slice_get P.functions g ≡ Some fn → fn.captured < fields
   pub few : length P.functions ≤ most_functions

@@ -2,7 +2,7 @@
 //! chapter 10).
 //!
 //! Contracts see a block as the tree of `specs/Lifted.antt`, in which a constant stands by the number of its name, and functions as a list of
-//! that file. `lifted_of` of `specs/LiftedView.antt` is the program of it, in which a constant stands by its place.
+//! that file. `lifted_of` of `specs/LiftedProgram.antt` is the program of it, in which a constant stands by its place.
 ghost use Rattle.std.specs.Prelude.{◌≡◌};
 
 use crate::lists::{Functions, LiftedConstants};

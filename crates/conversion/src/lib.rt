@@ -7,8 +7,8 @@
 //! What it finds to be below or equal is so by cumulativity or conversion (`below`, `equal`).
 //!
 //! Below stand `pc_rules` (the definitions, the traits, environments and contexts), `instances` (entries formed from declarations),
-//! `rule_laws` (what the directed rules say by the declarative ones), `pc_terms` and `universe_levels`; above, the crates that infer types
-//! and check environments.
+//! `rule_laws` (what the directed rules say by the declarative ones), `pc_terms` and `universe_levels`; above, `lazy_conversion`, the
+//! crates that make certificates and go along them, and the rows.
 #![tactic(auto)]
 
 pub mod comparison;

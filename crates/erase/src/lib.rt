@@ -13,7 +13,7 @@
 //! units, but what the tests of the terms around it inferred isn't inferred again while the table has it.
 //!
 //! Below stand `erasable` (the test), `known_types` (the table), `instances` (contexts under binders), `box_terms` (terms and programs after erasure),
-//! and the definitions and laws of `erase_rules`, `erase_laws` and `lambda_box`; above, the passes on box programs.
+//! and the definitions and laws of `erase_rules`, `erase_laws` and `lambda_box`; above, the driver and the rows.
 #![tactic(auto)]
 
 mod constants;

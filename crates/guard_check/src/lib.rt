@@ -13,7 +13,7 @@
 //! are smaller, `tasks` and `finding` find out what a term is, `walking` walks over a body, and `guard` over the definitions.
 //!
 //! Below stand `pc_rules` (the definitions, the traits, environments and contexts), `rule_laws` (the directed guard is sound) and
-//! `pc_terms`, above the crates that infer types and check environments.
+//! `pc_terms`, above `env_check`, the driver and the rows.
 #![tactic(auto)]
 
 mod args;

@@ -11,7 +11,7 @@
 //! and matches ask for a whole block (`known`, `kept`).
 //!
 //! Below stand `pc_terms` (terms, lifting, substitution) and `pc_rules` (declarations, environments and the definitions), above the crates
-//! that reduce, compare, guard, infer, and test and erase terms.
+//! that reduce, compare, infer, make and follow certificates, and test and erase terms.
 #![tactic(auto)]
 
 pub mod contexts;

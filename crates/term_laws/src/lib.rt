@@ -6,7 +6,7 @@
 //! over all numbers: the limits of terms in memory are no part of them.
 //!
 //! Below stand `trees`, whose lemmas (`proofs/`) hold for every language, and `pc_terms`, whose calls compute these functions; the tests
-//! here run those calls. Above stand the crates that prove laws of typing and of evaluation.
+//! here run those calls. Above stands `equality_laws`.
 #![tactic(auto)]
 
 ghost use Rattle.std.specs.Prelude.{◌≡◌, ◌≤◌, ◌<◌, ◌+◌, ◌++◌, ℕ, List, [], ◌∷◌, length, map};

@@ -5,8 +5,8 @@
 //! lawful, by which the simulation by erased programs goes (`evaluations_are_lawful`).
 //!
 //! Below stand `calculus_rules` with the definitions, `equality_laws` with confluence and `typing_laws` with generation, weakening and substitution; above stand
-//! `headline`, which by these laws asks of main's evaluation nothing more, and `progress`, which says where evaluation
-//! may get stuck.
+//! `erase_laws`, whose simulation goes by these laws, `headline`, which by them asks of main's evaluation nothing more, and `progress`, which
+//! says where evaluation may get stuck.
 #![tactic(auto)]
 
 ghost use Rattle.type_laws.specs.Laws.{
